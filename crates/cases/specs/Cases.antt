@@ -1,0 +1,147 @@
+-- 01, "Checked by hand": the starred cases as one list under one theorem, proved by computing the definitions, and three more samples
+-- under another. A case is data: a format, begins and steps, and what must come back. Assumes nothing.
+use mathlib.Core.Path.{_≡_, refl}
+use mathlib.Core.List.{List, [], _∷_, map}
+use Prim.Native.Nat.{ℕ, zero, suc, _-_}
+use lib.ListN.{replicate}
+use Rattle.meaning.specs.Numbers.{WENT, FINISHED, BLOCKED, IDLE, LIMITS}
+use Rattle.meaning.specs.Programs.{WRITE, READ, UNMAP, LEVEL}
+use Rattle.meaning.specs.Call.{Reply, Entry, begin, step}
+use Rattle.meaning.specs.Schedule.{run, replies}
+use Rattle.store.specs.Layout.{size}
+use Rattle.store.specs.Area.{bytes, wellFormed}
+use Rattle.store.specs.Calls.{formatArea, callArea}
+
+-- ---- what a case is
+
+-- a call, and the number and value that must come back
+pub record Line : Type 0 where
+  pub call : Entry
+  pub number : ℕ
+  pub value : ℕ
+
+-- what must stand in the area at the end: anything, or these words
+pub data End : Type 0 where
+  anything : End
+  exactly : List ℕ → End
+
+pub record Case : Type 0 where
+  pub t : ℕ
+  pub n : ℕ
+  pub p : ℕ
+  pub d : ℕ
+  -- what the format must answer
+  pub number : ℕ
+  pub lines : List Line
+  pub end : End
+
+-- what comes back: the numbers and values, the format's first, and the area where the case speaks of it
+pub record Back : Type 0 where
+  pub said : List (ℕ × ℕ)
+  pub area : List ℕ
+
+abbrev pub expected : Case → Back
+expected c =
+    record {
+      said = (c .number, 0) ∷ map (λ l. (l .number, l .value)) (c .lines);
+      area = elim (c .end) [ anything ↦ [] | exactly ws ↦ bytes ws ];
+    }
+
+-- the format is of an area of the right length whose bytes are all 255
+abbrev pub formatted : Case → Reply (List ℕ)
+formatted c = formatArea (replicate (size (c .t) (c .n) (c .p)) 255) (c .t) (c .n) (c .p) (c .d)
+
+abbrev pub happens : Case → Back
+happens c =
+    record {
+      said =
+          (formatted c .number, formatted c .value) ∷ replies callArea (formatted c .after) (map (λ l. l .call) (c .lines));
+      area =
+          elim (c .end) [
+            | anything ↦ []
+            | exactly ws ↦ run callArea (formatted c .after) (map (λ l. l .call) (c .lines))
+          ];
+    }
+
+-- ---- how cases are written
+
+abbrev pub formats : ℕ → ℕ → ℕ → ℕ → ℕ → Case
+formats t n p d number = record { t = t; n = n; p = p; d = d; number = number; lines = []; end = anything }
+
+abbrev pub accepted : ℕ → ℕ → ℕ → ℕ → List Line → Case
+accepted t n p d lines = record { t = t; n = n; p = p; d = d; number = WENT; lines = lines; end = anything }
+
+abbrev pub onTheLast : ℕ → List Line → List Line
+onTheLast value rest = record { call = step 0; number = FINISHED; value = value } ∷ rest
+
+abbrev pub goes : ℕ → List Line → List Line
+goes zero rest = rest
+goes (suc k) rest = record { call = step 0; number = WENT; value = 0 } ∷ goes k rest
+
+-- an operation of thread 0, begun and stepped to its end: so many steps, the last with the value
+abbrev pub whole : ℕ → ℕ → ℕ → ℕ → ℕ → List Line → List Line
+whole op n c count value rest =
+    record { call = begin 0 op n c; number = WENT; value = 0 } ∷ goes (count - 1) (onTheLast value rest)
+
+-- "T=1, N=2, P=3, D=2, whole operations: write 0 7, write 1 9, unmap 0, write 0 8, unmap 0", up to the levelling
+abbrev pub usedTwo : List Line → List Line
+usedTwo rest =
+    whole WRITE 0 7 16 0 (whole WRITE 1 9 16 0 (whole UNMAP 0 0 11 0 (whole WRITE 0 8 16 0 (whole UNMAP 0 0 11 0 rest))))
+
+-- the area of that run after its levelling, a block record a line
+abbrev pub levelled : List ℕ
+levelled =
+    1 ∷ 2 ∷ 3 ∷ 2 ∷ 0 ∷ 0  -- T, N, P, D, header lock, headers' owner
+    ∷ 0 ∷ 0 ∷ 0 ∷ 0 ∷ 0 ∷ 0 ∷ 0  -- thread 0 is idle
+    ∷ 0 ∷ 1  -- number 0 is unmapped, number 1 is on block 0
+    ∷ 0 ∷ 0  -- both locks are free
+    ∷ 2 ∷ 9 ∷ 2 ∷ 0  -- block 0 is number 1's, holds 9 and has wear 2
+    ∷ 0 ∷ 9 ∷ 1 ∷ 0  -- block 1 is free with wear 1
+    ∷ 0 ∷ 0 ∷ 0 ∷ 0  -- block 2 was never used
+    ∷ []
+
+-- ---- the starred cases
+
+unfoldable pub starred : List Case
+starred =
+    formats 1 256 256 1 LIMITS  -- N=256, P=256
+    ∷ formats 1 256 257 1 WENT  -- P=257, T=1, D=1
+    ∷ formats 0 1 2 1 LIMITS  -- T=0
+    ∷ formats 17 1 2 1 LIMITS  -- T=17
+    ∷ formats 1 1 2 1000 WENT  -- D=1,000
+    ∷ formats 1 1 2 1001 LIMITS  -- D=1,001
+    ∷ accepted 1 1 2 1 (whole READ 0 0 3 0 [])  -- read on fresh: 3 steps, value 0
+    ∷ accepted 1 1 2 1 (whole WRITE 0 7 16 0 [])  -- first write: 16 steps
+    ∷ accepted 1 1 2 1 (whole WRITE 0 7 16 0 (whole WRITE 0 8 8 0 []))  -- second write to the same number: 8
+    ∷ accepted 1 1 2 1 (whole UNMAP 0 0 5 0 [])  -- unmap of an unmapped number: 5 steps
+    ∷ accepted 1 1 2 1 (whole WRITE 0 7 16 0 (whole UNMAP 0 0 11 0 []))  -- of a mapped one: 11
+    ∷ accepted 1 1 2 1 (whole LEVEL 0 0 7 0 [])  -- level on fresh: 7 steps, value 0
+    ∷ record { t = 1; n = 2; p = 3; d = 2; number = WENT; lines = usedTwo (whole LEVEL 0 0 18 1 []); end = exactly levelled }  -- levelling gives 1, to its bytes
+    ∷ accepted 1 2 3 2 (usedTwo (whole LEVEL 0 0 18 1 (whole READ 1 0 6 9 (whole READ 0 0 3 0 []))))  -- read 1 gives 9, read 0 gives 0
+    ∷ []
+
+pub starred-hold : map happens starred ≡ map expected starred
+unfolding starred wellFormed
+starred-hold = refl
+
+-- ---- samples that bear no star
+
+unfoldable pub samples : List Case
+samples =
+    accepted 1 2 3 2 (usedTwo (whole LEVEL 0 0 18 1 (whole LEVEL 0 0 7 0 [])))  -- a second level gives 0
+    ∷ accepted 1 2 3 3 (usedTwo (whole LEVEL 0 0 7 0 []))  -- with D=3 the first level gives 0
+    ∷ accepted 2 1 2 1  -- 01, "The script program", the example
+    (record { call = begin 0 READ 0 9; number = WENT; value = 0 }
+    ∷ record { call = begin 1 READ 0 0; number = WENT; value = 0 }
+    ∷ record { call = step 0; number = WENT; value = 0 }
+    ∷ record { call = step 1; number = BLOCKED; value = 0 }
+    ∷ record { call = step 0; number = WENT; value = 0 }
+    ∷ record { call = step 0; number = FINISHED; value = 0 }
+    ∷ record { call = step 1; number = WENT; value = 0 }
+    ∷ record { call = step 0; number = IDLE; value = 0 }
+    ∷ [])
+    ∷ []
+
+pub samples-hold : map happens samples ≡ map expected samples
+unfolding samples wellFormed
+samples-hold = refl

@@ -1,0 +1,12 @@
+-- What must be believed of the machine, in a reader's order.
+pub mod Table
+pub mod Numbers
+pub mod Limits
+pub mod Store
+pub mod Holding
+pub mod Programs
+pub mod Choosing
+pub mod Step
+pub mod Call
+pub mod Manager
+pub mod Schedule

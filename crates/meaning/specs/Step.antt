@@ -1,0 +1,275 @@
+-- What a line does. 01, "The lines", "A line's needs" and "Choosing": a line is an act of Programs; `perform` says what it would do, and
+-- `apply` does it. So a step that is refused or blocked does nothing.
+use mathlib.Core.Bool.{Bool, not, cond, _&&_}
+use Prim.Native.Nat.{ℕ, _+_}
+use lib.Dec.{eqb, ltb}
+use Rattle.meaning.specs.declared.Reg.{Reg}
+use Rattle.meaning.specs.declared.Reg.the-variants.{P, Q}
+use Rattle.meaning.specs.declared.Answer.{Answer}
+use Rattle.meaning.specs.declared.Answer.the-variants.{Zero, C, Moved}
+use Rattle.meaning.specs.declared.Act.{Act}
+use Rattle.meaning.specs.declared.Act.the-variants.{Nothing, TakeH, ReleaseH, FinishH, TakeN, ReleaseN, FinishN, OwnHeaders, LetGoHeaders, Own, LetGo, GoIfMapped, GoIfUnmapped, EmptyIfUnmapped, GoIfFree, PickFree, Choose, ReadHeader, WriteHeaderN, WriteHeaderH, FreeHeader, EmptyContent, ReadContent, WriteContent, MapTo, Unmap}
+use Rattle.meaning.specs.declared.Thread.{Thread}
+use Rattle.meaning.specs.declared.Word.{Word}
+use Rattle.meaning.specs.declared.Word.the-variants.{Stay, Become}
+use Rattle.meaning.specs.declared.Entry.{Entry}
+use Rattle.meaning.specs.declared.Entry.the-variants.{Keep, Put}
+use Rattle.meaning.specs.declared.Effect.{Effect}
+use Rattle.meaning.specs.declared.Verdict.{Verdict}
+use Rattle.meaning.specs.declared.Verdict.the-variants.{Blocked, Fault, Go, Done}
+use Rattle.meaning.specs.declared.Found.{Found}
+use Rattle.meaning.specs.declared.Found.the-variants.{Nobody, At}
+use Rattle.meaning.specs.Table.{upd}
+use Rattle.meaning.specs.Limits.{mostWord}
+use Rattle.meaning.specs.Store.{Store}
+use Rattle.meaning.specs.Holding.{none, free, by, heldBy, naming, named}
+use Rattle.meaning.specs.Programs.{actAt}
+use Rattle.meaning.specs.Choosing.{lowestFree, toBlock, leastWorn, fromBlock}
+
+-- ---- the thread's record
+
+abbrev pub goto : ℕ → Thread → Thread
+goto l r = record { op = r .op; line = l; n = r .n; c = r .c; p = r .p; q = r .q; h = r .h }
+
+-- "Where no line is named, the next follows."
+abbrev pub onward : Thread → Thread
+onward r = goto (r .line + 1) r
+
+abbrev pub setN : ℕ → Thread → Thread
+setN x r = record { op = r .op; line = r .line; n = x; c = r .c; p = r .p; q = r .q; h = r .h }
+
+abbrev pub setC : ℕ → Thread → Thread
+setC x r = record { op = r .op; line = r .line; n = r .n; c = x; p = r .p; q = r .q; h = r .h }
+
+abbrev pub setP : ℕ → Thread → Thread
+setP x r = record { op = r .op; line = r .line; n = r .n; c = r .c; p = x; q = r .q; h = r .h }
+
+abbrev pub setQ : ℕ → Thread → Thread
+setQ x r = record { op = r .op; line = r .line; n = r .n; c = r .c; p = r .p; q = x; h = r .h }
+
+abbrev pub setH : ℕ → Thread → Thread
+setH x r = record { op = r .op; line = r .line; n = r .n; c = r .c; p = r .p; q = r .q; h = x }
+
+abbrev pub block : Reg → Thread → ℕ
+block P r = r .p
+block Q r = r .q
+
+-- ---- the effects that there are
+
+abbrev pub nothing : Effect
+nothing =
+    record { lock = Stay; owner = Stay; map = Keep; locks = Keep; header = Keep; content = Keep; wear = Keep; own = Keep }
+
+abbrev pub onLock : ℕ → Effect
+onLock w =
+    record {
+      lock = Become w;
+      owner = Stay;
+      map = Keep;
+      locks = Keep;
+      header = Keep;
+      content = Keep;
+      wear = Keep;
+      own = Keep;
+    }
+
+abbrev pub onOwner : ℕ → Effect
+onOwner w =
+    record {
+      lock = Stay;
+      owner = Become w;
+      map = Keep;
+      locks = Keep;
+      header = Keep;
+      content = Keep;
+      wear = Keep;
+      own = Keep;
+    }
+
+abbrev pub onMap : ℕ → ℕ → Effect
+onMap n w =
+    record {
+      lock = Stay;
+      owner = Stay;
+      map = Put n w;
+      locks = Keep;
+      header = Keep;
+      content = Keep;
+      wear = Keep;
+      own = Keep;
+    }
+
+abbrev pub onLocks : ℕ → ℕ → Effect
+onLocks n w =
+    record {
+      lock = Stay;
+      owner = Stay;
+      map = Keep;
+      locks = Put n w;
+      header = Keep;
+      content = Keep;
+      wear = Keep;
+      own = Keep;
+    }
+
+abbrev pub onHeader : ℕ → ℕ → Effect
+onHeader m w =
+    record {
+      lock = Stay;
+      owner = Stay;
+      map = Keep;
+      locks = Keep;
+      header = Put m w;
+      content = Keep;
+      wear = Keep;
+      own = Keep;
+    }
+
+abbrev pub onContent : ℕ → ℕ → Effect
+onContent m w =
+    record {
+      lock = Stay;
+      owner = Stay;
+      map = Keep;
+      locks = Keep;
+      header = Keep;
+      content = Put m w;
+      wear = Keep;
+      own = Keep;
+    }
+
+-- a block freed, with its wear
+abbrev pub onFreed : ℕ → ℕ → Effect
+onFreed m w =
+    record {
+      lock = Stay;
+      owner = Stay;
+      map = Keep;
+      locks = Keep;
+      header = Put m none;
+      content = Keep;
+      wear = Put m w;
+      own = Keep;
+    }
+
+abbrev pub onOwn : ℕ → ℕ → Effect
+onOwn m w =
+    record {
+      lock = Stay;
+      owner = Stay;
+      map = Keep;
+      locks = Keep;
+      header = Keep;
+      content = Keep;
+      wear = Keep;
+      own = Put m w;
+    }
+
+-- ---- verdicts
+
+-- a line's need: FAULT where it isn't met
+abbrev pub need : Bool → Verdict → Verdict
+need met v = cond met v Fault
+
+-- a take: BLOCKED where its lock isn't free, held by itself included
+abbrev pub take : ℕ → Verdict → Verdict
+take w v = cond (free w) v Blocked
+
+-- on to the next line with a record and an effect
+abbrev pub next : Thread → Effect → Verdict
+next r e = Go (onward r) e
+
+-- "Wear at 4,294,967,295 stays there."
+abbrev pub worn : ℕ → ℕ
+worn w = cond (ltb w mostWord) (w + 1) w
+
+-- 1 where h is not free, else 0
+abbrev pub moved : ℕ → ℕ
+moved h = cond (free h) 0 1
+
+abbrev pub answer : Answer → Thread → ℕ
+answer Zero r = 0
+answer C r = r .c
+answer Moved r = moved (r .h)
+
+-- the block is owned by t and its header isn't free: what a content line needs
+abbrev pub touches : Store → ℕ → ℕ → Bool
+touches s t m = heldBy t (s .own m) && not (free (s .header m))
+
+-- headers and the block are owned by t: what writing a header needs
+abbrev pub heads : Store → ℕ → ℕ → Bool
+heads s t m = heldBy t (s .owner) && heldBy t (s .own m)
+
+-- L3 where `to` and the least worn mapped block are found
+abbrev pub choosing : Store → Thread → Found → Found → Verdict
+choosing s r Nobody from = Fault
+choosing s r (At to) from = next (setQ to (setP (fromBlock (s .wear) (s .distance) to from) r)) nothing
+
+-- what the act would do: of store s, for thread t with record r
+abbrev pub perform : Act → Store → ℕ → Thread → Verdict
+perform Nothing s t r = Fault
+perform TakeH s t r = take (s .lock) (next r (onLock (by t)))
+perform ReleaseH s t r = need (heldBy t (s .lock)) (next r (onLock none))
+perform (FinishH a) s t r = need (heldBy t (s .lock)) (Done (answer a r) (onLock none))
+perform TakeN s t r = take (s .locks (r .n)) (next r (onLocks (r .n) (by t)))
+perform ReleaseN s t r = need (heldBy t (s .locks (r .n))) (next r (onLocks (r .n) none))
+perform (FinishN a) s t r = need (heldBy t (s .locks (r .n))) (Done (answer a r) (onLocks (r .n) none))
+perform OwnHeaders s t r = need (free (s .owner)) (next r (onOwner (by t)))
+perform LetGoHeaders s t r = need (heldBy t (s .owner)) (next r (onOwner none))
+perform (Own b) s t r = need (free (s .own (block b r))) (next r (onOwn (block b r) (by t)))
+perform (LetGo b) s t r = need (heldBy t (s .own (block b r))) (next r (onOwn (block b r) none))
+perform (GoIfMapped l) s t r =
+    cond (free (s .map (r .n))) (next r nothing) (Go (goto l (setP (named (s .map (r .n))) r)) nothing)
+perform (GoIfUnmapped l) s t r =
+    cond (free (s .map (r .n))) (Go (goto l r) nothing) (next (setP (named (s .map (r .n))) r) nothing)
+perform (EmptyIfUnmapped l) s t r =
+    cond (free (s .map (r .n))) (Go (goto l (setC 0 r)) nothing) (next (setP (named (s .map (r .n))) r) nothing)
+perform (GoIfFree l) s t r = cond (free (r .h)) (Go (goto l r) nothing) (next (setN (named (r .h)) r) nothing)
+perform PickFree s t r =
+    need (heldBy t (s .owner)) (need (ltb (lowestFree (s .header) (s .blocks)) (s .blocks))
+    (next (setP (lowestFree (s .header) (s .blocks)) r) nothing))
+perform Choose s t r =
+    need (heldBy t (s .owner))
+    (choosing s r (toBlock (s .header) (s .wear) (s .blocks)) (leastWorn (s .header) (s .wear) (s .blocks)))
+perform ReadHeader s t r = need (heldBy t (s .owner)) (next (setH (s .header (r .p)) r) nothing)
+perform WriteHeaderN s t r = need (heads s t (r .p)) (next r (onHeader (r .p) (naming (r .n))))
+perform WriteHeaderH s t r = need (heads s t (r .q)) (next r (onHeader (r .q) (r .h)))
+perform FreeHeader s t r = need (heads s t (r .p)) (next r (onFreed (r .p) (worn (s .wear (r .p)))))
+perform EmptyContent s t r = need (touches s t (r .p)) (next r (onContent (r .p) 0))
+perform ReadContent s t r = need (touches s t (r .p)) (next (setC (s .content (r .p)) r) nothing)
+perform (WriteContent b) s t r = need (touches s t (block b r)) (next r (onContent (block b r) (r .c)))
+perform (MapTo b) s t r = next r (onMap (r .n) (naming (block b r)))
+perform Unmap s t r = next r (onMap (r .n) none)
+
+-- what thread t's next line would do
+abbrev pub verdict : Store → ℕ → Verdict
+verdict s t = perform (actAt (s .thread t .op) (s .thread t .line)) s t (s .thread t)
+
+-- ---- doing it
+
+abbrev pub become : Word → ℕ → ℕ
+become Stay x = x
+become (Become w) x = w
+
+abbrev pub put : Entry → (ℕ → ℕ) → ℕ → ℕ
+put Keep f = f
+put (Put i w) f = upd f i w
+
+-- the store with t's record and an effect
+abbrev pub apply : Store → ℕ → Thread → Effect → Store
+apply s t r e =
+    record {
+      threads = s .threads;
+      numbers = s .numbers;
+      blocks = s .blocks;
+      distance = s .distance;
+      lock = become (e .lock) (s .lock);
+      owner = become (e .owner) (s .owner);
+      thread = upd (s .thread) t r;
+      map = put (e .map) (s .map);
+      locks = put (e .locks) (s .locks);
+      header = put (e .header) (s .header);
+      content = put (e .content) (s .content);
+      wear = put (e .wear) (s .wear);
+      own = put (e .own) (s .own);
+    }

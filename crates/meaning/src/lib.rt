@@ -1,0 +1,93 @@
+// The types that the code and the definitions share. What they mean stands in specs/; nothing here runs.
+
+// A register that holds a block's number.
+pub enum Reg {
+    P,
+    Q,
+}
+
+// What an operation finishes with: 0; register c; or 1 if register h is not free, else 0.
+pub enum Answer {
+    Zero,
+    C,
+    Moved,
+}
+
+// What a line does. A number is the line to go to. The first is what stands at no line.
+pub enum Act {
+    Nothing,
+    TakeH,
+    ReleaseH,
+    FinishH(Answer),
+    TakeN,
+    ReleaseN,
+    FinishN(Answer),
+    OwnHeaders,
+    LetGoHeaders,
+    Own(Reg),
+    LetGo(Reg),
+    GoIfMapped(u32),
+    GoIfUnmapped(u32),
+    EmptyIfUnmapped(u32),
+    GoIfFree(u32),
+    PickFree,
+    Choose,
+    ReadHeader,
+    WriteHeaderN,
+    WriteHeaderH,
+    FreeHeader,
+    EmptyContent,
+    ReadContent,
+    WriteContent(Reg),
+    MapTo(Reg),
+    Unmap,
+}
+
+// A thread's record: operation, line and the five registers, in the area's order.
+pub struct Thread {
+    pub op: u32,
+    pub line: u32,
+    pub n: u32,
+    pub c: u32,
+    pub p: u32,
+    pub q: u32,
+    pub h: u32,
+}
+
+// What becomes of a word: it stays, or becomes a value.
+pub enum Word {
+    Stay,
+    Become(u32),
+}
+
+// What becomes of a table: it is kept, or a value is put at an index.
+pub enum Entry {
+    Keep,
+    Put(u32, u32),
+}
+
+// What a step does to the store beside its thread's record: in each table one entry at most.
+pub struct Effect {
+    pub lock: Word,
+    pub owner: Word,
+    pub map: Entry,
+    pub locks: Entry,
+    pub header: Entry,
+    pub content: Entry,
+    pub wear: Entry,
+    pub own: Entry,
+}
+
+// What a step would do: nothing, since a lock isn't free or a need isn't met; go on; or end its operation.
+pub enum Verdict {
+    Blocked,
+    Fault,
+    Go(Thread, Effect),
+    Done(u32, Effect),
+}
+
+// What a search among blocks finds.
+pub enum Found {
+    Nobody,
+    At(u32),
+}

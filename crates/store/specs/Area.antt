@@ -1,0 +1,132 @@
+-- The store area: 01, "Sizes and the store area". An area is a list of bytes; its words, the store that it holds (`decode`), the area
+-- of a store (`encode`), and when it is well formed.
+use mathlib.Core.Bool.{Bool, not, cond, _&&_}
+use mathlib.Core.List.{List, [], _∷_, _++_}
+use Prim.Native.Nat.{ℕ, zero, suc, _+_, _*_, _/_, _%_, _<_}
+use lib.ListN.{getD, set, length}
+use lib.Dec.{eqb, ltb, leb}
+use Rattle.meaning.specs.declared.Thread.{Thread}
+use Rattle.meaning.specs.Table.{below, every}
+use Rattle.meaning.specs.Limits.{inLimits, within}
+use Rattle.meaning.specs.Store.{Store}
+use Rattle.meaning.specs.Programs.{LEVEL, lastLine}
+use Rattle.store.specs.Layout.{tAt, nAt, pAt, dAt, lockAt, ownerAt, threadsAt, threadWords, mapAt, locksAt, blocksAt, blockWords, size}
+
+-- ---- "The area is 32-bit little-endian words"
+
+-- every element is a byte
+abbrev pub Bytes : List ℕ → Type 0
+Bytes a = (i : ℕ) → getD a i 0 < 256
+
+abbrev pub word : List ℕ → ℕ → ℕ
+word a k =
+    getD a (4 * k) 0 + 256 * getD a (4 * k + 1) 0 + 65536 * getD a (4 * k + 2) 0 + 16777216 * getD a (4 * k + 3) 0
+
+abbrev pub bytes : List ℕ → List ℕ
+bytes [] = []
+bytes (v ∷ vs) = v % 256 ∷ v / 256 % 256 ∷ v / 65536 % 256 ∷ v / 16777216 % 256 ∷ bytes vs
+
+-- the area with v as its word k
+abbrev pub putWord : List ℕ → ℕ → ℕ → List ℕ
+putWord a k v =
+    set (set (set (set a (4 * k) (v % 256)) (4 * k + 1) (v / 256 % 256)) (4 * k + 2) (v / 65536 % 256)) (4 * k + 3)
+    (v / 16777216 % 256)
+
+-- ---- the area of a store
+
+-- the rows k, k + 1, .. of which there are so many, one after the other
+abbrev pub rows : ℕ → ℕ → (ℕ → List ℕ) → List ℕ
+rows k zero row = []
+rows k (suc count) row = row k ++ rows (suc k) count row
+
+abbrev pub threadRow : Thread → List ℕ
+threadRow r = r .op ∷ r .line ∷ r .n ∷ r .c ∷ r .p ∷ r .q ∷ r .h ∷ []
+
+abbrev pub blockRow : Store → ℕ → List ℕ
+blockRow s m = s .header m ∷ s .content m ∷ s .wear m ∷ s .own m ∷ []
+
+-- "in this order"
+abbrev pub words : Store → List ℕ
+words s =
+    (s .threads ∷ s .numbers ∷ s .blocks ∷ s .distance ∷ s .lock ∷ s .owner ∷ [])
+    ++ rows 0 (s .threads) (λ t. threadRow (s .thread t))
+    ++ rows 0 (s .numbers) (λ n. s .map n ∷ [])
+    ++ rows 0 (s .numbers) (λ n. s .locks n ∷ [])
+    ++ rows 0 (s .blocks) (blockRow s)
+
+abbrev pub encode : Store → List ℕ
+encode s = bytes (words s)
+
+-- ---- the store that an area holds
+
+-- the words at from, from + stride, .., as a table of so many entries
+abbrev pub column : (ℕ → ℕ) → ℕ → ℕ → ℕ → ℕ → ℕ
+column at from stride count = below 0 count (λ k. at (from + stride * k))
+
+abbrev pub threadAt : (ℕ → ℕ) → ℕ → ℕ → Thread
+threadAt at count k =
+    record {
+      op = column at threadsAt threadWords count k;
+      line = column at (threadsAt + 1) threadWords count k;
+      n = column at (threadsAt + 2) threadWords count k;
+      c = column at (threadsAt + 3) threadWords count k;
+      p = column at (threadsAt + 4) threadWords count k;
+      q = column at (threadsAt + 5) threadWords count k;
+      h = column at (threadsAt + 6) threadWords count k;
+    }
+
+-- the store with these sizes whose words are given by a function
+abbrev pub storeOf : (ℕ → ℕ) → ℕ → ℕ → ℕ → Store
+storeOf at t n p =
+    record {
+      threads = t;
+      numbers = n;
+      blocks = p;
+      distance = at dAt;
+      lock = at lockAt;
+      owner = at ownerAt;
+      thread = threadAt at t;
+      map = column at (mapAt t) 1 n;
+      locks = column at (locksAt t n) 1 n;
+      header = column at (blocksAt t n) blockWords p;
+      content = column at (blocksAt t n + 1) blockWords p;
+      wear = column at (blocksAt t n + 2) blockWords p;
+      own = column at (blocksAt t n + 3) blockWords p;
+    }
+
+abbrev pub decode : List ℕ → Store
+decode a = storeOf (word a) (word a tAt) (word a nAt) (word a pAt)
+
+-- ---- well formed
+
+-- "an idle record (operation 0) is seven zeros"
+abbrev pub zeros : Thread → Bool
+zeros r =
+    eqb (r .op) 0 && eqb (r .line) 0 && eqb (r .n) 0 && eqb (r .c) 0 && eqb (r .p) 0 && eqb (r .q) 0 && eqb (r .h) 0
+
+-- "headers and h at most N, operation 0 to 4, n below N, p and q below P, line from 1 to the operation's last"; N and P are given
+abbrev pub working : ℕ → ℕ → Thread → Bool
+working n p r =
+    leb (r .op) LEVEL && within 1 (lastLine (r .op)) (r .line) && ltb (r .n) n && ltb (r .p) p && ltb (r .q) p && leb (r .h) n
+
+abbrev pub soundThread : ℕ → ℕ → Thread → Bool
+soundThread n p r = cond (eqb (r .op) 0) (zeros r) (working n p r)
+
+-- every word of the store is in its bounds; "Content, c and wear may be any word."
+abbrev pub sound : Store → Bool
+sound s =
+    inLimits (s .threads) (s .numbers) (s .blocks) (s .distance)
+    && leb (s .lock) (s .threads)
+    && leb (s .owner) (s .threads)
+    && every (s .threads) (λ t. soundThread (s .numbers) (s .blocks) (s .thread t))
+    && every (s .numbers) (λ n. leb (s .map n) (s .blocks))
+    && every (s .numbers) (λ n. leb (s .locks n) (s .threads))
+    && every (s .blocks) (λ m. leb (s .header m) (s .numbers))
+    && every (s .blocks) (λ m. leb (s .own m) (s .threads))
+
+-- "length exact"
+abbrev pub fitted : List ℕ → Bool
+fitted a = eqb (length a) (size (word a tAt) (word a nAt) (word a pAt))
+
+unfoldable pub wellFormed : List ℕ → Bool
+wellFormed a = fitted a && sound (decode a)

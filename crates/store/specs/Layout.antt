@@ -1,0 +1,49 @@
+-- 01, "Sizes and the store area": where each word of the area stands, counted in words from 0. No layout number stands elsewhere.
+use Prim.Native.Nat.{ℕ, _+_, _*_}
+
+-- "T, N, P, D, header lock, headers' owner."
+abbrev pub tAt : ℕ
+tAt = 0
+
+abbrev pub nAt : ℕ
+nAt = 1
+
+abbrev pub pAt : ℕ
+pAt = 2
+
+abbrev pub dAt : ℕ
+dAt = 3
+
+abbrev pub lockAt : ℕ
+lockAt = 4
+
+abbrev pub ownerAt : ℕ
+ownerAt = 5
+
+-- "T thread records of 7: operation, line, n, c, p, q, h."
+abbrev pub threadsAt : ℕ
+threadsAt = 6
+
+abbrev pub threadWords : ℕ
+threadWords = 7
+
+-- "Map: N words". "Block locks: N words."
+abbrev pub mapAt : ℕ → ℕ
+mapAt t = threadsAt + threadWords * t
+
+abbrev pub locksAt : ℕ → ℕ → ℕ
+locksAt t n = mapAt t + n
+
+-- "P block records of 4: header, content, wear, owner."
+abbrev pub blocksAt : ℕ → ℕ → ℕ
+blocksAt t n = locksAt t n + n
+
+abbrev pub blockWords : ℕ
+blockWords = 4
+
+abbrev pub areaWords : ℕ → ℕ → ℕ → ℕ
+areaWords t n p = blocksAt t n + blockWords * p
+
+-- "Length in bytes is 4(6 + 7T + 2N + 4P)"
+abbrev pub size : ℕ → ℕ → ℕ → ℕ
+size t n p = 4 * areaWords t n p

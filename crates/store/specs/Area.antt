@@ -8,7 +8,7 @@ use lib.Dec.{eqb, ltb, leb}
 use Rattle.meaning.specs.declared.Thread.{Thread}
 use Rattle.meaning.specs.Table.{below, every}
 use Rattle.meaning.specs.Limits.{inLimits, within}
-use Rattle.meaning.specs.Store.{Store}
+use Rattle.meaning.specs.Store.{Store, idle}
 use Rattle.meaning.specs.Programs.{LEVEL, lastLine}
 use Rattle.store.specs.Layout.{tAt, nAt, pAt, dAt, lockAt, ownerAt, threadsAt, threadWords, mapAt, locksAt, blocksAt, blockWords, size}
 
@@ -63,16 +63,17 @@ encode s = bytes (words s)
 abbrev pub column : (ℕ → ℕ) → ℕ → ℕ → ℕ → ℕ → ℕ
 column at from stride count = below 0 count (λ k. at (from + stride * k))
 
-abbrev pub threadAt : (ℕ → ℕ) → ℕ → ℕ → Thread
-threadAt at count k =
+-- the thread record whose seven words begin at i
+abbrev pub threadFrom : (ℕ → ℕ) → ℕ → Thread
+threadFrom at i =
     record {
-      op = column at threadsAt threadWords count k;
-      line = column at (threadsAt + 1) threadWords count k;
-      n = column at (threadsAt + 2) threadWords count k;
-      c = column at (threadsAt + 3) threadWords count k;
-      p = column at (threadsAt + 4) threadWords count k;
-      q = column at (threadsAt + 5) threadWords count k;
-      h = column at (threadsAt + 6) threadWords count k;
+      op = at i;
+      line = at (i + 1);
+      n = at (i + 2);
+      c = at (i + 3);
+      p = at (i + 4);
+      q = at (i + 5);
+      h = at (i + 6)
     }
 
 -- the store with these sizes whose words are given by a function
@@ -85,7 +86,7 @@ storeOf at t n p =
       distance = at dAt;
       lock = at lockAt;
       owner = at ownerAt;
-      thread = threadAt at t;
+      thread = below idle t (λ k. threadFrom at (threadsAt + threadWords * k));
       map = column at (mapAt t) 1 n;
       locks = column at (locksAt t n) 1 n;
       header = column at (blocksAt t n) blockWords p;

@@ -1,1 +1,215 @@
-// x
+// The store area: reading and writing its words, the test that it is well formed, the working store and its filling, and a setter for
+// each table. What an area means stands in specs/Area.antt; every contract below is an equality with a definition there.
+ghost use mathlib.Core.Path.{_≡_};
+ghost use mathlib.Core.List.{List, _∷_, []};
+ghost use Prim.Native.Nat.{ℕ, _+_, _*_, _<_, _≤_};
+ghost use lib.ListN.{length, replicate};
+ghost use lib.Dec.{leb};
+ghost use Rattle.meaning.specs.Table.{every};
+ghost use Rattle.meaning.specs.Limits.{least, mostThreads, mostNumbers, mostBlocks, mostDistance, inLimits};
+ghost use Rattle.meaning.specs.Programs.{lastLine};
+ghost use Rattle.store.specs.Layout.{threadsAt, threadWords, mapAt, locksAt, blocksAt, size};
+ghost use Rattle.store.specs.Area.{word, putWord, threadFrom, column, decode, soundThread, wellFormed};
+ghost use Rattle.store.specs.Live.{Live, Within, Reaches, table, view, zeroFilled};
+
+use meaning::Thread;
+
+// ---- the working store and the limits
+
+// The store inside the program: an array a field, filled with zeros at full size before an area is read in.
+pub struct Store {
+    pub t: u32,
+    pub n: u32,
+    pub p: u32,
+    pub d: u32,
+    pub lock: u32,
+    pub owner: u32,
+    pub threads: [u32; Store::THREAD_CELLS],
+    pub map: [u32; Store::MAX_N],
+    pub locks: [u32; Store::MAX_N],
+    pub header: [u32; Store::MAX_P],
+    pub content: [u32; Store::MAX_P],
+    pub wear: [u32; Store::MAX_P],
+    pub own: [u32; Store::MAX_P],
+}
+
+impl Store {
+    // Document 01, "Sizes and the store area". Each of T, N and D is at least MIN, and P at least N + 1.
+    pub const MIN: u32 = 1;
+    pub const MAX_T: usize = 16;
+    pub const MAX_N: usize = 256;
+    pub const MAX_P: usize = 512;
+    pub const MAX_D: u32 = 1000;
+    pub const THREAD_CELLS: usize = 112;
+
+    // All zeros.
+    pub fn fresh() -> Store
+        ensures { λ r. ⌜ r ≡ zeroFilled ⌝ }
+    {
+        Store {
+            t: 0,
+            n: 0,
+            p: 0,
+            d: 0,
+            lock: 0,
+            owner: 0,
+            threads: [0; Store::THREAD_CELLS],
+            map: [0; Store::MAX_N],
+            locks: [0; Store::MAX_N],
+            header: [0; Store::MAX_P],
+            content: [0; Store::MAX_P],
+            wear: [0; Store::MAX_P],
+            own: [0; Store::MAX_P],
+        }
+    }
+
+    // The four sizes are in their limits.
+    pub fn in_limits(t: u32, n: u32, p: u32, d: u32) -> bool
+        ensures { λ r. ⌜ r ≡ inLimits t n p d ⌝ }
+    {
+        ((Store::MIN <= t) & (t as usize <= Store::MAX_T))
+            & ((Store::MIN <= n) & (n as usize <= Store::MAX_N))
+            & ((n < p) & (p as usize <= Store::MAX_P))
+            & ((Store::MIN <= d) & (d <= Store::MAX_D))
+    }
+}
+
+// ---- words
+
+fn wide(x: u8) -> u32
+    ensures { λ r. ⌜ (r ≡ x) × (r < 256) ⌝ }
+{
+    x as u32
+}
+
+// Word k of the area.
+pub fn word_at(area: &[u8], k: usize) -> u32
+    requires { ⌜ Within (now area) k ⌝ }
+    ensures { λ r. ⌜ r ≡ word (now (area .entry)) k ⌝ }
+{
+    let i = 4 * k;
+    wide(area[i]) + 256 * wide(area[i + 1]) + 65536 * wide(area[i + 2]) + 16777216 * wide(area[i + 3])
+}
+
+// Word k of the area becomes v, and nothing else changes.
+pub fn put_word(area: &mut [u8], k: usize, v: u32)
+    requires { ⌜ Within (now area) k ⌝ }
+    ensures { λ r. ⌜ now (area .exit) ≡ putWord (now (area .entry)) k v ⌝ }
+{
+    let i = 4 * k;
+    area[i] = (v % 256) as u8;
+    area[i + 1] = (v / 256 % 256) as u8;
+    area[i + 2] = (v / 65536 % 256) as u8;
+    area[i + 3] = (v / 16777216 % 256) as u8;
+}
+
+// ---- where the tables stand, in words
+
+const T_AT: usize = 0;
+const N_AT: usize = 1;
+const P_AT: usize = 2;
+const D_AT: usize = 3;
+const LOCK_AT: usize = 4;
+const OWNER_AT: usize = 5;
+const THREADS_AT: usize = 6;
+const THREAD_WORDS: usize = 7;
+const BLOCK_WORDS: usize = 4;
+const CONTENT: usize = 1;
+const WEAR: usize = 2;
+const OWN: usize = 3;
+
+fn map_at(t: usize) -> usize
+    requires { ⌜ t ≤ mostThreads ⌝ }
+    ensures { λ r. ⌜ r ≡ mapAt t ⌝ }
+{
+    THREADS_AT + THREAD_WORDS * t
+}
+
+fn locks_at(t: usize, n: usize) -> usize
+    requires { ⌜ (t ≤ mostThreads) × (n ≤ mostNumbers) ⌝ }
+    ensures { λ r. ⌜ r ≡ locksAt t n ⌝ }
+{
+    map_at(t) + n
+}
+
+fn blocks_at(t: usize, n: usize) -> usize
+    requires { ⌜ (t ≤ mostThreads) × (n ≤ mostNumbers) ⌝ }
+    ensures { λ r. ⌜ r ≡ blocksAt t n ⌝ }
+{
+    locks_at(t, n) + n
+}
+
+// The length of an area with these sizes, in bytes.
+pub fn size_of(t: usize, n: usize, p: usize) -> usize
+    requires { ⌜ (t ≤ mostThreads) × (n ≤ mostNumbers) × (p ≤ mostBlocks) ⌝ }
+    ensures { λ r. ⌜ r ≡ size t n p ⌝ }
+{
+    4 * (blocks_at(t, n) + BLOCK_WORDS * p)
+}
+
+// ---- well formed
+
+// Every word of a column is at most the bound. There is no early way out, so that the loop can run over many words at a time.
+fn all_at_most(area: &[u8], from: usize, stride: usize, count: usize, bound: u32) -> bool
+    requires { ⌜ Reaches (now area) from stride count ⌝ }
+    ensures { λ r. ⌜ r ≡ every count (λ k. leb (word (now (area .entry)) (from + stride * k)) bound) ⌝ }
+{
+    let mut all = true;
+    let mut k: usize = 0;
+    while k < count {
+        let cell = from + stride * k;
+        all = all & (word_at(area, cell) <= bound);
+        k += 1;
+    }
+    all
+}
+
+const LAST_LINES: [u32; 5] = [0, 16, 6, 11, 18];
+
+// The last line of an operation, 0 for what is none.
+fn last_line(op: u32) -> u32
+    ensures { λ r. ⌜ r ≡ lastLine op ⌝ }
+{
+    if op <= 4 { LAST_LINES[op as usize] } else { 0 }
+}
+
+// A thread's record is seven zeros, or in its bounds.
+fn thread_sound(r: Thread, n: u32, p: u32) -> bool
+    ensures { λ b. ⌜ b ≡ soundThread n p r ⌝ }
+{
+    if r.op == 0 {
+        return (r.op == 0) & (r.line == 0) & (r.n == 0) & (r.c == 0) & (r.p == 0) & (r.q == 0) & (r.h == 0);
+    }
+    (r.op <= 4) & ((1 <= r.line) & (r.line <= last_line(r.op))) & (r.n < n) & (r.p < p) & (r.q < p) & (r.h <= n)
+}
+
+// The thread record whose words begin at a cell.
+pub fn thread_at(area: &[u8], cell: usize) -> Thread
+    requires { ⌜ Within (now area) (cell + 6) ⌝ }
+    ensures { λ r. ⌜ r ≡ threadFrom (word (now (area .entry))) cell ⌝ }
+{
+    Thread {
+        op: word_at(area, cell),
+        line: word_at(area, cell + 1),
+        n: word_at(area, cell + 2),
+        c: word_at(area, cell + 3),
+        p: word_at(area, cell + 4),
+        q: word_at(area, cell + 5),
+        h: word_at(area, cell + 6),
+    }
+}
+
+// Every thread record is sound.
+fn threads_sound(area: &[u8], t: usize, n: u32, p: u32) -> bool
+    requires { ⌜ Reaches (now area) (threadsAt + 6) threadWords t ⌝ }
+    ensures { λ r. ⌜ r ≡ every t (λ k. soundThread n p (threadFrom (word (now (area .entry))) (threadsAt + threadWords * k))) ⌝ }
+{
+    let mut all = true;
+    let mut k: usize = 0;
+    while k < t {
+        let cell = THREADS_AT + THREAD_WORDS * k;
+        all = all & thread_sound(thread_at(area, cell), n, p);
+        k += 1;
+    }
+    all
+}

@@ -1,0 +1,16 @@
+-- `store::thread_sound` meets its contract. Assumes nothing.
+use borrow.Author.Needs.{needs}
+use borrow.Author.Tests.{eq-eqb, ne-eqb}
+use Rattle.store.proofs.thread_sound.Statement.{statement}
+use Rattle.store.proofs.thread_sound.Tie as tie
+
+returns : tie.Need-returns
+returns c = simp (eq-eqb _ _ (c .before .before .before .before .before .before .before .if1 .taken))
+
+returns-2 : tie.Need-returns-2
+returns-2 c = simp (ne-eqb _ _ (c .before .before .before .before .before .before .before .before .if1 .left), ← c .before .before .before .before .before .last-line .ensures)
+
+pub thread-sound-spec : {M : Type 1} → statement M
+thread-sound-spec =
+    tie.close
+    (tie.spec returns (λ c κs. search needs) returns-2)

@@ -1,0 +1,70 @@
+-- What the functions between our own crates may take for granted of an area: it has the length of its sizes, and these are in limits.
+-- Linear facts alone.
+use mathlib.Core.Path.{_≡_}
+use mathlib.Core.List.{List}
+use Prim.Native.Nat.{ℕ, _+_, _*_, _<_, _≤_}
+use lib.ListN.{length, getD, replicate}
+use Rattle.meaning.specs.Limits.{mostThreads, mostNumbers, mostBlocks}
+use Rattle.meaning.specs.Store.{Store}
+use Rattle.store.specs.declared.Store.{Store as Working}
+use Rattle.store.specs.Layout.{tAt, nAt, pAt, threadWords, size}
+use Rattle.store.specs.Area.{word, threadFrom}
+
+pub record Live (a : List ℕ) (t n p : ℕ) : Type 0 where
+  pub threads : word a tAt ≡ t
+  pub numbers : word a nAt ≡ n
+  pub blocks : word a pAt ≡ p
+  pub few : (t ≤ mostThreads) × (n ≤ mostNumbers) × (p ≤ mostBlocks)
+  pub fits : length a ≡ size t n p
+
+-- word k is within the area
+abbrev pub Within : List ℕ → ℕ → Type 0
+Within a k = 4 * k + 4 ≤ length a
+
+-- the words of a column are within the area
+abbrev pub Reaches : List ℕ → ℕ → ℕ → ℕ → Type 0
+Reaches a from stride count = (k : ℕ) → k < count → Within a (from + stride * k)
+
+-- ---- the working store
+
+-- an array as a table
+abbrev pub table : List ℕ → ℕ → ℕ
+table l k = getD l k 0
+
+-- the store that the working store's arrays stand for
+abbrev pub view : Working → Store
+view w =
+    record {
+      threads = w .t;
+      numbers = w .n;
+      blocks = w .p;
+      distance = w .d;
+      lock = w .lock;
+      owner = w .owner;
+      thread = λ k. threadFrom (table (w .threads)) (threadWords * k);
+      map = table (w .map);
+      locks = table (w .locks);
+      header = table (w .header);
+      content = table (w .content);
+      wear = table (w .wear);
+      own = table (w .own)
+    }
+
+-- "filled with zeros at full size, 512 blocks and 256 map entries"
+abbrev pub zeroFilled : Working
+zeroFilled =
+    record {
+      t = 0;
+      n = 0;
+      p = 0;
+      d = 0;
+      lock = 0;
+      owner = 0;
+      threads = replicate (threadWords * mostThreads) 0;
+      map = replicate mostNumbers 0;
+      locks = replicate mostNumbers 0;
+      header = replicate mostBlocks 0;
+      content = replicate mostBlocks 0;
+      wear = replicate mostBlocks 0;
+      own = replicate mostBlocks 0
+    }

@@ -1,3 +1,5 @@
 -- The laws that the functions' proofs and the crates above cite, a file a subject.
 pub mod Every
 pub mod Lines
+pub mod Decode
+pub mod Sound

@@ -113,17 +113,20 @@ working n p r =
 abbrev pub soundThread : ℕ → ℕ → Thread → Bool
 soundThread n p r = cond (eqb (r .op) 0) (zeros r) (working n p r)
 
--- every word of the store is in its bounds; "Content, c and wear may be any word."
-abbrev pub sound : Store → Bool
-sound s =
-    inLimits (s .threads) (s .numbers) (s .blocks) (s .distance)
-    && leb (s .lock) (s .threads)
+-- "locks and owners at most T, map at most P, headers [..] at most N". "Content, c and wear may be any word."
+abbrev pub inBounds : Store → Bool
+inBounds s =
+    leb (s .lock) (s .threads)
     && leb (s .owner) (s .threads)
     && every (s .threads) (λ t. soundThread (s .numbers) (s .blocks) (s .thread t))
     && every (s .numbers) (λ n. leb (s .map n) (s .blocks))
     && every (s .numbers) (λ n. leb (s .locks n) (s .threads))
     && every (s .blocks) (λ m. leb (s .header m) (s .numbers))
     && every (s .blocks) (λ m. leb (s .own m) (s .threads))
+
+-- "the four sizes in limits", and every word in its bounds
+abbrev pub sound : Store → Bool
+sound s = inLimits (s .threads) (s .numbers) (s .blocks) (s .distance) && inBounds s
 
 -- "length exact"
 abbrev pub fitted : List ℕ → Bool

@@ -9,7 +9,7 @@ ghost use Rattle.meaning.specs.Table.{every};
 ghost use Rattle.meaning.specs.Limits.{least, mostThreads, mostNumbers, mostBlocks, mostDistance, inLimits};
 ghost use Rattle.meaning.specs.Programs.{lastLine};
 ghost use Rattle.store.specs.Layout.{threadsAt, threadWords, mapAt, locksAt, blocksAt, size};
-ghost use Rattle.store.specs.Area.{word, putWord, threadFrom, column, decode, soundThread, wellFormed};
+ghost use Rattle.store.specs.Area.{word, putWord, threadFrom, column, decode, soundThread, inBounds, wellFormed};
 ghost use Rattle.store.specs.Live.{Live, Within, Reaches, table, view, zeroFilled};
 
 use meaning::Thread;
@@ -178,7 +178,7 @@ fn thread_sound(r: Thread, n: u32, p: u32) -> bool
     ensures { λ b. ⌜ b ≡ soundThread n p r ⌝ }
 {
     if r.op == 0 {
-        return (r.op == 0) & (r.line == 0) & (r.n == 0) & (r.c == 0) & (r.p == 0) & (r.q == 0) & (r.h == 0);
+        return (r.line == 0) & (r.n == 0) & (r.c == 0) & (r.p == 0) & (r.q == 0) & (r.h == 0);
     }
     (r.op <= 4) & ((1 <= r.line) & (r.line <= last_line(r.op))) & (r.n < n) & (r.p < p) & (r.q < p) & (r.h <= n)
 }
@@ -212,4 +212,44 @@ fn threads_sound(area: &[u8], t: usize, n: u32, p: u32) -> bool
         k += 1;
     }
     all
+}
+
+// The words of a live area are in their bounds.
+fn words_sound(area: &[u8], t: u32, n: u32, p: u32) -> bool
+    requires { ⌜ Live (now area) t n p ⌝ }
+    ensures { λ r. ⌜ r ≡ inBounds (decode (now (area .entry))) ⌝ }
+{
+    let threads = t as usize;
+    let numbers = n as usize;
+    let blocks = p as usize;
+    let map = map_at(threads);
+    let locks = locks_at(threads, numbers);
+    let header = blocks_at(threads, numbers);
+    (word_at(area, LOCK_AT) <= t)
+        & (word_at(area, OWNER_AT) <= t)
+        & threads_sound(area, threads, n, p)
+        & all_at_most(area, map, 1, numbers, p)
+        & all_at_most(area, locks, 1, numbers, t)
+        & all_at_most(area, header, BLOCK_WORDS, blocks, n)
+        & all_at_most(area, header + OWN, BLOCK_WORDS, blocks, t)
+}
+
+// The area is well formed.
+pub fn well_formed(area: &[u8]) -> bool
+    ensures { λ r. ⌜ r ≡ wellFormed (now (area .entry)) ⌝ }
+{
+    if area.len() < 4 * THREADS_AT {
+        return false;
+    }
+    let t = word_at(area, T_AT);
+    let n = word_at(area, N_AT);
+    let p = word_at(area, P_AT);
+    let d = word_at(area, D_AT);
+    if !Store::in_limits(t, n, p, d) {
+        return false;
+    }
+    if area.len() != size_of(t as usize, n as usize, p as usize) {
+        return false;
+    }
+    words_sound(area, t, n, p)
 }

@@ -5,7 +5,7 @@ use Rattle.store.proofs.thread_sound.Statement.{statement}
 use Rattle.store.proofs.thread_sound.Tie as tie
 
 returns : tie.Need-returns
-returns c = simp (eq-eqb _ _ (c .before .before .before .before .before .before .before .if1 .taken))
+returns c = simp (eq-eqb _ _ (c .before .before .before .before .before .before .if1 .taken))
 
 returns-2 : tie.Need-returns-2
 returns-2 c = simp (ne-eqb _ _ (c .before .before .before .before .before .before .before .before .if1 .left), ← c .before .before .before .before .before .last-line .ensures)

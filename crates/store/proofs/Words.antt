@@ -1,0 +1,194 @@
+-- Words of bytes: a word of what was put, the word of an area's bytes, the bytes of an area's words. Assumes nothing.
+use mathlib.Core.Path.{_≡_, refl, _∙_, sym, ap, fun-ext}
+use mathlib.Core.Bool.{Bool, true, false, cond}
+use mathlib.Core.List.{List, [], _∷_}
+use mathlib.Core.Logic.{_⊎_, inl, inr}
+use Prim.Native.Nat.{ℕ, zero, suc, _+_, _*_, _/_, _%_, _<_, _≤_}
+use native.Mathlib.Nat.{add-zero, div-div-eq-div-mul}
+use native.Mathlib.Decide.{decLt}
+use native.Mathlib.Omega.{arith}
+use lib.Dec.{eqb}
+use lib.ListN.{getD, set, length, drop, length-set, drop-of-length-le}
+use lib.Seq.{getD-set-same, getD-set-other, drop-cons}
+use borrow.Author.Tests.{eqb-true, eqb-false}
+use Rattle.meaning.specs.Table.{upd}
+use Rattle.store.specs.Area.{Bytes, word, bytes, putWord}
+use Rattle.store.specs.Live.{Within}
+
+-- ---- a word and its four bytes
+
+-- the word with these bytes
+abbrev pub joined : ℕ → ℕ → ℕ → ℕ → ℕ
+joined a b c d = a + 256 * b + 65536 * c + 16777216 * d
+
+by-bytes : (v w x y a b c d : ℕ) → v ≡ a + 256 * w → w ≡ b + 256 * x → x ≡ c + 256 * y → y ≡ d → joined a b c d ≡ v
+by-bytes v w x y a b c d e f g h = omega arith
+
+low-byte : (v : ℕ) → v ≡ v % 256 + 256 * (v / 256)
+low-byte v = omega arith
+
+top-byte : (v : ℕ) → v < 4294967296 → v / 16777216 ≡ v / 16777216 % 256
+top-byte v h = omega arith
+
+pub joined-split : (v : ℕ) → v < 4294967296 → joined (v % 256) (v / 256 % 256) (v / 65536 % 256) (v / 16777216 % 256) ≡ v
+joined-split v h =
+    by-bytes v (v / 256) (v / 65536) (v / 16777216) (v % 256) (v / 256 % 256) (v / 65536 % 256) (v / 16777216 % 256)
+    (low-byte v) (rw (← div-div-eq-div-mul v 256 256) (low-byte (v / 256)))
+    (rw (← div-div-eq-div-mul v 65536 256) (low-byte (v / 65536))) (top-byte v h)
+
+module _ (a b c d : ℕ) (ha : a < 256) (hb : b < 256) (hc : c < 256) (hd : d < 256) where
+  pub joined-0 : joined a b c d % 256 ≡ a
+  joined-0 = omega arith
+
+  pub joined-1 : joined a b c d / 256 % 256 ≡ b
+  joined-1 = omega arith
+
+  pub joined-2 : joined a b c d / 65536 % 256 ≡ c
+  joined-2 = omega arith
+
+  pub joined-3 : joined a b c d / 16777216 % 256 ≡ d
+  joined-3 = omega arith
+
+-- ---- a word that was put
+
+pub length-putWord : (a : List ℕ) (k v : ℕ) → length (putWord a k v) ≡ length a
+length-putWord a k v = simp length-set
+
+-- four elements set, and what lies before or after them
+abbrev set-four : List ℕ → ℕ → ℕ → ℕ → ℕ → ℕ → List ℕ
+set-four l i a b c d = set (set (set (set l i a) (i + 1) b) (i + 2) c) (i + 3) d
+
+module _ (l : List ℕ) (i a b c d : ℕ) where
+  getD-four-other : (j : ℕ) → (j < i) ⊎ (i + 4 ≤ j) → getD (set-four l i a b c d) j 0 ≡ getD l j 0
+  getD-four-other j (inl h) =
+      getD-set-other (set (set (set l i a) (i + 1) b) (i + 2) c) (i + 3) j d 0 (λ e. omega arith)
+      ∙ getD-set-other (set (set l i a) (i + 1) b) (i + 2) j c 0 (λ e. omega arith)
+      ∙ getD-set-other (set l i a) (i + 1) j b 0 (λ e. omega arith)
+      ∙ getD-set-other l i j a 0 (λ e. omega arith)
+  getD-four-other j (inr h) =
+      getD-set-other (set (set (set l i a) (i + 1) b) (i + 2) c) (i + 3) j d 0 (λ e. omega arith)
+      ∙ getD-set-other (set (set l i a) (i + 1) b) (i + 2) j c 0 (λ e. omega arith)
+      ∙ getD-set-other (set l i a) (i + 1) j b 0 (λ e. omega arith)
+      ∙ getD-set-other l i j a 0 (λ e. omega arith)
+
+  module _ (h : i + 4 ≤ length l) where
+    getD-four-3 : getD (set-four l i a b c d) (i + 3) 0 ≡ d
+    getD-four-3 = getD-set-same (set (set (set l i a) (i + 1) b) (i + 2) c) (i + 3) d 0 (simp length-set (omega arith))
+
+    getD-four-2 : getD (set-four l i a b c d) (i + 2) 0 ≡ c
+    getD-four-2 =
+        getD-set-other (set (set (set l i a) (i + 1) b) (i + 2) c) (i + 3) (i + 2) d 0 (λ e. omega arith)
+        ∙ getD-set-same (set (set l i a) (i + 1) b) (i + 2) c 0 (simp length-set (omega arith))
+
+    getD-four-1 : getD (set-four l i a b c d) (i + 1) 0 ≡ b
+    getD-four-1 =
+        getD-set-other (set (set (set l i a) (i + 1) b) (i + 2) c) (i + 3) (i + 1) d 0 (λ e. omega arith)
+        ∙ getD-set-other (set (set l i a) (i + 1) b) (i + 2) (i + 1) c 0 (λ e. omega arith)
+        ∙ getD-set-same (set l i a) (i + 1) b 0 (simp length-set (omega arith))
+
+    getD-four-0 : getD (set-four l i a b c d) i 0 ≡ a
+    getD-four-0 =
+        getD-set-other (set (set (set l i a) (i + 1) b) (i + 2) c) (i + 3) i d 0 (λ e. omega arith)
+        ∙ getD-set-other (set (set l i a) (i + 1) b) (i + 2) i c 0 (λ e. omega arith)
+        ∙ getD-set-other (set l i a) (i + 1) i b 0 (λ e. omega arith)
+        ∙ getD-set-same l i a 0 (omega arith)
+
+module _ (a : List ℕ) (k v : ℕ) where
+  word-put-same : Within a k → v < 4294967296 → word (putWord a k v) k ≡ v
+  word-put-same w h =
+      let f = getD-four-0 a (4 * k) (v % 256) (v / 256 % 256) (v / 65536 % 256) (v / 16777216 % 256) w in
+      let g = getD-four-1 a (4 * k) (v % 256) (v / 256 % 256) (v / 65536 % 256) (v / 16777216 % 256) w in
+      let x = getD-four-2 a (4 * k) (v % 256) (v / 256 % 256) (v / 65536 % 256) (v / 16777216 % 256) w in
+      let y = getD-four-3 a (4 * k) (v % 256) (v / 256 % 256) (v / 65536 % 256) (v / 16777216 % 256) w in
+      (λ i. joined (f i) (g i) (x i) (y i)) ∙ joined-split v h
+
+  word-put-other : (j : ℕ) → (k ≡ j → ⊥) → word (putWord a k v) j ≡ word a j
+  word-put-other j h =
+      λ i.
+      joined (rw add-zero at (kept 0 (omega arith)) i) (kept 1 (omega arith) i) (kept 2 (omega arith) i) (kept 3 (omega arith) i)
+    where
+      apart : (e : ℕ) → e < 4 → (4 * j + e < 4 * k) ⊎ (4 * k + 4 ≤ 4 * j + e)
+      apart e l = by-order (decLt j k)
+        where
+          by-order : Dec (j < k) → (4 * j + e < 4 * k) ⊎ (4 * k + 4 ≤ 4 * j + e)
+          by-order (yes q) = inl (omega arith)
+          by-order (no q) = inr (omega arith)
+
+      kept : (e : ℕ) → e < 4 → getD (putWord a k v) (4 * j + e) 0 ≡ getD a (4 * j + e) 0
+      kept e l =
+          getD-four-other a (4 * k) (v % 256) (v / 256 % 256) (v / 65536 % 256) (v / 16777216 % 256) (4 * j + e) (apart e l)
+
+-- the words of an area with a word put, as a table
+pub word-put : (a : List ℕ) (k v : ℕ) → Within a k → v < 4294967296 → word (putWord a k v) ≡ upd (word a) k v
+word-put a k v w h = fun-ext λ j. by-place j (eqb k j) refl
+  where
+    by-place : (j : ℕ) (b : Bool) → eqb k j ≡ b → word (putWord a k v) j ≡ cond b v (word a j)
+    by-place j true e = rw (← eqb-true k j e) (word-put-same a k v w h)
+    by-place j false e = word-put-other a k v j (eqb-false k j e)
+
+-- ---- the bytes of words
+
+getD-after-four : (a b c d : ℕ) (l : List ℕ) (k e : ℕ) → getD (a ∷ b ∷ c ∷ d ∷ l) (4 * suc k + e) 0 ≡ getD l (4 * k + e) 0
+getD-after-four a b c d l k e =
+    let q : 4 * suc k + e ≡ suc (suc (suc (suc (4 * k + e)))) = omega arith in
+    rw q
+
+pub length-bytes : (ws : List ℕ) → length (bytes ws) ≡ 4 * length ws
+length-bytes [] = refl
+length-bytes (v ∷ vs) = rw (length-bytes vs) (omega arith)
+
+pub word-bytes : (ws : List ℕ) → ((k : ℕ) → getD ws k 0 < 4294967296) → (k : ℕ) → word (bytes ws) k ≡ getD ws k 0
+word-bytes [] h k = refl
+word-bytes (v ∷ vs) h zero = joined-split v (h 0)
+word-bytes (v ∷ vs) h (suc k) = (λ i. joined (next₀ i) (next 1 i) (next 2 i) (next 3 i)) ∙ word-bytes vs (λ j. h (suc j)) k
+  where
+    next : (e : ℕ) → getD (bytes (v ∷ vs)) (4 * suc k + e) 0 ≡ getD (bytes vs) (4 * k + e) 0
+    next e = getD-after-four (v % 256) (v / 256 % 256) (v / 65536 % 256) (v / 16777216 % 256) (bytes vs) k e
+
+    next₀ : getD (bytes (v ∷ vs)) (4 * suc k) 0 ≡ getD (bytes vs) (4 * k) 0
+    next₀ = simp add-zero at (next 0)
+
+-- the words k, k + 1, .. of a function, of which there are so many
+abbrev pub span : (ℕ → ℕ) → ℕ → ℕ → List ℕ
+span at k zero = []
+span at k (suc count) = at k ∷ span at (suc k) count
+
+drop-next : (a : List ℕ) (i j : ℕ) → j ≡ suc i → i < length a → drop i a ≡ getD a i 0 ∷ drop j a
+drop-next a i j e h = rw e (drop-cons a i 0 h)
+
+drop-four :
+    (a : List ℕ) (i : ℕ) → i + 4 ≤ length a →
+    drop i a ≡ getD a i 0 ∷ getD a (i + 1) 0 ∷ getD a (i + 2) 0 ∷ getD a (i + 3) 0 ∷ drop (i + 4) a
+drop-four a i h =
+    drop-next a i (i + 1) (omega arith) (omega arith)
+    ∙ ap (λ l. getD a i 0 ∷ l) (drop-next a (i + 1) (i + 2) (omega arith) (omega arith))
+    ∙ ap (λ l. getD a i 0 ∷ getD a (i + 1) 0 ∷ l) (drop-next a (i + 2) (i + 3) (omega arith) (omega arith))
+    ∙ ap (λ l. getD a i 0 ∷ getD a (i + 1) 0 ∷ getD a (i + 2) 0 ∷ l)
+    (drop-next a (i + 3) (i + 4) (omega arith) (omega arith))
+
+-- an area of bytes is the bytes of its words
+pub bytes-span : (a : List ℕ) → Bytes a → (count k : ℕ) → length a ≡ 4 * (k + count) → bytes (span (word a) k count) ≡ drop (4 * k) a
+bytes-span a h zero k l = sym (drop-of-length-le a {i = 4 * k} (omega arith))
+bytes-span a h (suc count) k l =
+    (λ i.
+    joined-0 x₀ x₁ x₂ x₃ (h _) (h _) (h _) (h _) i
+    ∷ joined-1 x₀ x₁ x₂ x₃ (h _) (h _) (h _) (h _) i
+    ∷ joined-2 x₀ x₁ x₂ x₃ (h _) (h _) (h _) (h _) i
+    ∷ joined-3 x₀ x₁ x₂ x₃ (h _) (h _) (h _) (h _) i
+    ∷ (bytes-span a h count (suc k) (omega arith) ∙ ap (λ n. drop n a) after) i)
+    ∙ sym (drop-four a (4 * k) (omega arith))
+  where
+    x₀ : ℕ
+    x₀ = getD a (4 * k) 0
+
+    x₁ : ℕ
+    x₁ = getD a (4 * k + 1) 0
+
+    x₂ : ℕ
+    x₂ = getD a (4 * k + 2) 0
+
+    x₃ : ℕ
+    x₃ = getD a (4 * k + 3) 0
+
+    after : 4 * suc k ≡ 4 * k + 4
+    after = omega arith

@@ -5,3 +5,4 @@ pub mod Words
 pub mod Decode
 pub mod Sound
 pub mod Codec
+pub mod Tables

@@ -32,6 +32,16 @@ putWord a k v =
     set (set (set (set a (4 * k) (v % 256)) (4 * k + 1) (v / 256 % 256)) (4 * k + 2) (v / 65536 % 256)) (4 * k + 3)
     (v / 16777216 % 256)
 
+-- the area with a thread's record as its seven words from k on
+abbrev pub putThread : List ℕ → ℕ → Thread → List ℕ
+putThread a k r =
+    putWord
+    (putWord
+    (putWord
+    (putWord (putWord (putWord (putWord a k (r .op)) (k + 1) (r .line)) (k + 2) (r .n)) (k + 3) (r .c)) (k + 4) (r .p))
+    (k + 5) (r .q))
+    (k + 6) (r .h)
+
 -- ---- the area of a store
 
 -- the rows k, k + 1, .. of which there are so many, one after the other

@@ -8,8 +8,8 @@ ghost use lib.Dec.{leb};
 ghost use Rattle.meaning.specs.Table.{every};
 ghost use Rattle.meaning.specs.Limits.{least, mostThreads, mostNumbers, mostBlocks, mostDistance, inLimits};
 ghost use Rattle.meaning.specs.Programs.{lastLine};
-ghost use Rattle.store.specs.Layout.{threadsAt, threadWords, mapAt, locksAt, blocksAt, size};
-ghost use Rattle.store.specs.Area.{word, putWord, threadFrom, column, decode, soundThread, inBounds, wellFormed};
+ghost use Rattle.store.specs.Layout.{lockAt, ownerAt, threadsAt, threadWords, mapAt, locksAt, blocksAt, blockWords, size};
+ghost use Rattle.store.specs.Area.{word, putWord, putThread, threadFrom, column, decode, soundThread, inBounds, wellFormed};
 ghost use Rattle.store.specs.Live.{Live, Within, Reaches, table, view, zeroFilled};
 
 use meaning::Thread;
@@ -252,4 +252,82 @@ pub fn well_formed(area: &[u8]) -> bool
         return false;
     }
     words_sound(area, t, n, p)
+}
+
+// ---- setters: each changes exactly the words that its contract names
+
+pub fn set_lock(area: &mut [u8], v: u32)
+    requires { ⌜ Within (now area) lockAt ⌝ }
+    ensures { λ _. ⌜ now (area .exit) ≡ putWord (now (area .entry)) lockAt v ⌝ }
+{
+    put_word(area, LOCK_AT, v);
+}
+
+pub fn set_owner(area: &mut [u8], v: u32)
+    requires { ⌜ Within (now area) ownerAt ⌝ }
+    ensures { λ _. ⌜ now (area .exit) ≡ putWord (now (area .entry)) ownerAt v ⌝ }
+{
+    put_word(area, OWNER_AT, v);
+}
+
+pub fn set_thread(area: &mut [u8], k: usize, r: Thread)
+    requires { ⌜ Within (now area) (threadsAt + threadWords * k + 6) ⌝ }
+    ensures { λ _. ⌜ now (area .exit) ≡ putThread (now (area .entry)) (threadsAt + threadWords * k) r ⌝ }
+{
+    let cell = THREADS_AT + THREAD_WORDS * k;
+    put_word(area, cell, r.op);
+    put_word(area, cell + 1, r.line);
+    put_word(area, cell + 2, r.n);
+    put_word(area, cell + 3, r.c);
+    put_word(area, cell + 4, r.p);
+    put_word(area, cell + 5, r.q);
+    put_word(area, cell + 6, r.h);
+}
+
+pub fn set_map(area: &mut [u8], t: usize, k: usize, v: u32)
+    requires { ⌜ (t ≤ mostThreads) × Within (now area) (mapAt t + k) ⌝ }
+    ensures { λ _. ⌜ now (area .exit) ≡ putWord (now (area .entry)) (mapAt t + k) v ⌝ }
+{
+    let cell = map_at(t) + k;
+    put_word(area, cell, v);
+}
+
+pub fn set_locks(area: &mut [u8], t: usize, n: usize, k: usize, v: u32)
+    requires { ⌜ (t ≤ mostThreads) × (n ≤ mostNumbers) × Within (now area) (locksAt t n + k) ⌝ }
+    ensures { λ _. ⌜ now (area .exit) ≡ putWord (now (area .entry)) (locksAt t n + k) v ⌝ }
+{
+    let cell = locks_at(t, n) + k;
+    put_word(area, cell, v);
+}
+
+pub fn set_header(area: &mut [u8], t: usize, n: usize, k: usize, v: u32)
+    requires { ⌜ (t ≤ mostThreads) × (n ≤ mostNumbers) × Within (now area) (blocksAt t n + blockWords * k) ⌝ }
+    ensures { λ _. ⌜ now (area .exit) ≡ putWord (now (area .entry)) (blocksAt t n + blockWords * k) v ⌝ }
+{
+    let cell = blocks_at(t, n) + BLOCK_WORDS * k;
+    put_word(area, cell, v);
+}
+
+pub fn set_content(area: &mut [u8], t: usize, n: usize, k: usize, v: u32)
+    requires { ⌜ (t ≤ mostThreads) × (n ≤ mostNumbers) × Within (now area) (blocksAt t n + 1 + blockWords * k) ⌝ }
+    ensures { λ _. ⌜ now (area .exit) ≡ putWord (now (area .entry)) (blocksAt t n + 1 + blockWords * k) v ⌝ }
+{
+    let cell = blocks_at(t, n) + CONTENT + BLOCK_WORDS * k;
+    put_word(area, cell, v);
+}
+
+pub fn set_wear(area: &mut [u8], t: usize, n: usize, k: usize, v: u32)
+    requires { ⌜ (t ≤ mostThreads) × (n ≤ mostNumbers) × Within (now area) (blocksAt t n + 2 + blockWords * k) ⌝ }
+    ensures { λ _. ⌜ now (area .exit) ≡ putWord (now (area .entry)) (blocksAt t n + 2 + blockWords * k) v ⌝ }
+{
+    let cell = blocks_at(t, n) + WEAR + BLOCK_WORDS * k;
+    put_word(area, cell, v);
+}
+
+pub fn set_own(area: &mut [u8], t: usize, n: usize, k: usize, v: u32)
+    requires { ⌜ (t ≤ mostThreads) × (n ≤ mostNumbers) × Within (now area) (blocksAt t n + 3 + blockWords * k) ⌝ }
+    ensures { λ _. ⌜ now (area .exit) ≡ putWord (now (area .entry)) (blocksAt t n + 3 + blockWords * k) v ⌝ }
+{
+    let cell = blocks_at(t, n) + OWN + BLOCK_WORDS * k;
+    put_word(area, cell, v);
 }

@@ -1,0 +1,240 @@
+-- What a word that is put does to the store that an area holds: it changes the table that it stands in, at its entry, and no other.
+-- The tables are numbered, so that one law, `storeOf-mixed`, says of each that the others are kept. Assumes nothing.
+use mathlib.Core.Path.{_≡_, refl, _∙_, sym, ap, fun-ext}
+use mathlib.Core.Bool.{Bool, true, false, cond}
+use mathlib.Core.List.{List}
+use Prim.Native.Nat.{ℕ, zero, suc, _+_, _*_, _<_, _≤_}
+use native.Mathlib.Omega.{arith}
+use lib.Dec.{eqb, ltb}
+use borrow.Author.Tests.{lt-ltb, ltb-true, eq-eqb, ne-eqb, eqb-true, eqb-false}
+use Rattle.meaning.specs.declared.Thread.{Thread}
+use Rattle.meaning.specs.declared.Effect.{Effect}
+use Rattle.meaning.specs.declared.Word.the-variants.{Stay}
+use Rattle.meaning.specs.declared.Entry.the-variants.{Keep, Put}
+use Rattle.meaning.specs.Table.{upd, below}
+use Rattle.meaning.specs.Store.{Store, idle}
+use Rattle.meaning.specs.Step.{become, put, apply, nothing, onLock, onOwner, onMap, onLocks, onHeader, onContent, onOwn}
+use Rattle.store.specs.Layout.{dAt, lockAt, ownerAt, threadsAt, threadWords, mapAt, locksAt, blocksAt, blockWords}
+use Rattle.store.specs.Area.{word, putWord, threadFrom, column, storeOf, decode}
+
+-- ---- tables that are kept
+
+-- nothing is asked of the table that is put to
+abbrev Unless : Bool → Type 0 → Type 0
+Unless true A = Unit {0}
+Unless false A = A
+
+-- word i is none of those from lo up to hi
+abbrev Clear : ℕ → ℕ → ℕ → Type 0
+Clear lo hi i = lo ≤ i → i < hi → ⊥
+
+-- the words from lo up to hi are apart from every table but number x
+record Apart (x t n p lo hi : ℕ) : Type 0 where
+  distance : Clear lo hi dAt
+  lock : Unless (eqb x 0) (Clear lo hi lockAt)
+  owner : Unless (eqb x 1) (Clear lo hi ownerAt)
+  thread : Unless (eqb x 2) ((k : ℕ) → k < t → (e : ℕ) → e < threadWords → Clear lo hi (threadsAt + threadWords * k + e))
+  map : Unless (eqb x 3) ((k : ℕ) → k < n → Clear lo hi (mapAt t + 1 * k))
+  locks : Unless (eqb x 4) ((k : ℕ) → k < n → Clear lo hi (locksAt t n + 1 * k))
+  header : Unless (eqb x 5) ((k : ℕ) → k < p → Clear lo hi (blocksAt t n + blockWords * k))
+  content : Unless (eqb x 6) ((k : ℕ) → k < p → Clear lo hi (blocksAt t n + 1 + blockWords * k))
+  wear : Unless (eqb x 7) ((k : ℕ) → k < p → Clear lo hi (blocksAt t n + 2 + blockWords * k))
+  own : Unless (eqb x 8) ((k : ℕ) → k < p → Clear lo hi (blocksAt t n + 3 + blockWords * k))
+
+-- the old store with the new one's table number x
+abbrev mixed : ℕ → Store → Store → Store
+mixed x new old =
+    record {
+      threads = old .threads;
+      numbers = old .numbers;
+      blocks = old .blocks;
+      distance = old .distance;
+      lock = cond (eqb x 0) (new .lock) (old .lock);
+      owner = cond (eqb x 1) (new .owner) (old .owner);
+      thread = cond (eqb x 2) (new .thread) (old .thread);
+      map = cond (eqb x 3) (new .map) (old .map);
+      locks = cond (eqb x 4) (new .locks) (old .locks);
+      header = cond (eqb x 5) (new .header) (old .header);
+      content = cond (eqb x 6) (new .content) (old .content);
+      wear = cond (eqb x 7) (new .wear) (old .wear);
+      own = cond (eqb x 8) (new .own) (old .own)
+    }
+
+kept : {A B : Type 0} (b : Bool) {x y : A} → Unless b B → (B → x ≡ y) → x ≡ cond b x y
+kept true u f = refl
+kept false u f = f u
+
+-- two tables that are made of the same entries below their size
+below-cong : {A : Type 0} (z : A) (n : ℕ) (f g : ℕ → A) → ((k : ℕ) → k < n → f k ≡ g k) → below z n f ≡ below z n g
+below-cong z n f g h = fun-ext λ k. by-size k (ltb k n) refl
+  where
+    by-size : (k : ℕ) (b : Bool) → ltb k n ≡ b → cond b (f k) z ≡ cond b (g k) z
+    by-size k true e = h k (ltb-true k n e)
+    by-size k false e = refl
+
+module _ (new old : ℕ → ℕ) (lo hi : ℕ) (same : (i : ℕ) → Clear lo hi i → new i ≡ old i) where
+  column-kept : (from stride count : ℕ) → ((k : ℕ) → k < count → Clear lo hi (from + stride * k)) → column new from stride count ≡ column old from stride count
+  column-kept from stride count a = below-cong 0 count _ _ (λ k h. same (from + stride * k) (a k h))
+
+  threads-kept :
+      (t : ℕ) → ((k : ℕ) → k < t → (e : ℕ) → e < threadWords → Clear lo hi (threadsAt + threadWords * k + e)) →
+      below idle t (λ k. threadFrom new (threadsAt + threadWords * k)) ≡ below idle t (λ k. threadFrom old (threadsAt + threadWords * k))
+  threads-kept t a =
+      below-cong idle t _ _ λ k h. λ i.
+      record {
+        op = same (threadsAt + threadWords * k) (λ l u. a k h 0 (omega arith) (omega arith) (omega arith)) i;
+        line = same (threadsAt + threadWords * k + 1) (a k h 1 (omega arith)) i;
+        n = same (threadsAt + threadWords * k + 2) (a k h 2 (omega arith)) i;
+        c = same (threadsAt + threadWords * k + 3) (a k h 3 (omega arith)) i;
+        p = same (threadsAt + threadWords * k + 4) (a k h 4 (omega arith)) i;
+        q = same (threadsAt + threadWords * k + 5) (a k h 5 (omega arith)) i;
+        h = same (threadsAt + threadWords * k + 6) (a k h 6 (omega arith)) i
+      }
+
+  storeOf-mixed : (x t n p : ℕ) → Apart x t n p lo hi → storeOf new t n p ≡ mixed x (storeOf new t n p) (storeOf old t n p)
+  storeOf-mixed x t n p a = λ i.
+      record {
+        threads = t;
+        numbers = n;
+        blocks = p;
+        distance = same dAt (a .distance) i;
+        lock = kept (eqb x 0) (a .lock) (same lockAt) i;
+        owner = kept (eqb x 1) (a .owner) (same ownerAt) i;
+        thread = kept (eqb x 2) (a .thread) (threads-kept t) i;
+        map = kept (eqb x 3) (a .map) (column-kept (mapAt t) 1 n) i;
+        locks = kept (eqb x 4) (a .locks) (column-kept (locksAt t n) 1 n) i;
+        header = kept (eqb x 5) (a .header) (column-kept (blocksAt t n) blockWords p) i;
+        content = kept (eqb x 6) (a .content) (column-kept (blocksAt t n + 1) blockWords p) i;
+        wear = kept (eqb x 7) (a .wear) (column-kept (blocksAt t n + 2) blockWords p) i;
+        own = kept (eqb x 8) (a .own) (column-kept (blocksAt t n + 3) blockWords p) i
+      }
+
+-- ---- the table that is put to
+
+upd-same : {A : Type 0} (f : ℕ → A) (i : ℕ) (v : A) (j : ℕ) → i ≡ j → upd f i v j ≡ v
+upd-same f i v j e = rw (eq-eqb i j e)
+
+upd-other : {A : Type 0} (f : ℕ → A) (i : ℕ) (v : A) (j : ℕ) → (i ≡ j → ⊥) → upd f i v j ≡ f j
+upd-other f i v j h = rw (ne-eqb i j h)
+
+-- a table below its size with a new entry k
+below-put :
+    {A : Type 0} (z : A) (n : ℕ) (f g : ℕ → A) (k : ℕ) (v : A) → k < n → g k ≡ v →
+    ((j : ℕ) → j < n → (k ≡ j → ⊥) → g j ≡ f j) → below z n g ≡ upd (below z n f) k v
+below-put z n f g k v l e o = fun-ext λ j. by-entry j (eqb k j) refl
+  where
+    by-entry : (j : ℕ) (b : Bool) → eqb k j ≡ b → below z n g j ≡ cond b v (below z n f j)
+    by-entry j true q =
+        let i : k ≡ j = eqb-true k j q in
+        rw (← i, lt-ltb k n l) e
+    by-entry j false q = by-size (ltb j n) refl
+      where
+        by-size : (b : Bool) → ltb j n ≡ b → cond b (g j) z ≡ cond b (f j) z
+        by-size true s = o j (ltb-true j n s) (eqb-false k j q)
+        by-size false s = refl
+
+column-put :
+    (at : ℕ → ℕ) (from stride count k v : ℕ) → k < count →
+    ((j : ℕ) → (k ≡ j → ⊥) → from + stride * k ≡ from + stride * j → ⊥) →
+    column (upd at (from + stride * k) v) from stride count ≡ upd (column at from stride count) k v
+column-put at from stride count k v l apart =
+    below-put 0 count _ _ k v l (upd-same at (from + stride * k) v (from + stride * k) refl)
+    (λ j h o. upd-other at (from + stride * k) v (from + stride * j) (apart j o))
+
+put-clear : (at : ℕ → ℕ) (w v i : ℕ) → Clear w (w + 1) i → upd at w v i ≡ at i
+put-clear at w v i c = upd-other at w v i (λ e. c (omega arith) (omega arith))
+
+-- ---- the store with an effect
+
+-- s with the effect alone, and with the thread's record alone: together what a step leaves
+abbrev pub made : Store → Effect → Store
+made s e =
+    record {
+      threads = s .threads;
+      numbers = s .numbers;
+      blocks = s .blocks;
+      distance = s .distance;
+      lock = become (e .lock) (s .lock);
+      owner = become (e .owner) (s .owner);
+      thread = s .thread;
+      map = put (e .map) (s .map);
+      locks = put (e .locks) (s .locks);
+      header = put (e .header) (s .header);
+      content = put (e .content) (s .content);
+      wear = put (e .wear) (s .wear);
+      own = put (e .own) (s .own)
+    }
+
+pub apply-made : (s : Store) (t : ℕ) (r : Thread) (e : Effect) → apply s t r e ≡ made (apply s t r nothing) e
+apply-made s t r e = refl
+
+-- the wear alone
+abbrev pub onWear : ℕ → ℕ → Effect
+onWear m w = record { lock = Stay; owner = Stay; map = Keep; locks = Keep; header = Keep; content = Keep; wear = Put m w; own = Keep }
+
+module _ (at : ℕ → ℕ) (t n p v : ℕ) where
+  abbrev old : Store
+  old = storeOf at t n p
+
+  abbrev after : ℕ → Store
+  after w = storeOf (upd at w v) t n p
+
+  -- all but table x are kept
+  others : (x w : ℕ) → Apart x t n p w (w + 1) → after w ≡ mixed x (after w) old
+  others x w a = storeOf-mixed (upd at w v) at w (w + 1) (put-clear at w v) x t n p a
+
+  store-lock : after lockAt ≡ made old (onLock v)
+  store-lock = others 0 lockAt (omega arith)
+
+  store-owner : after ownerAt ≡ made old (onOwner v)
+  store-owner = others 1 ownerAt (omega arith)
+
+  -- a store all of whose tables of numbers are f: `mixed x (tabled f) old` is old with f as its table x
+  abbrev tabled : (ℕ → ℕ) → Store
+  tabled f =
+      record {
+        threads = 0;
+        numbers = 0;
+        blocks = 0;
+        distance = 0;
+        lock = 0;
+        owner = 0;
+        thread = λ _. idle;
+        map = f;
+        locks = f;
+        header = f;
+        content = f;
+        wear = f;
+        own = f
+      }
+
+  module _ (k : ℕ) where
+    store-map : k < n → after (mapAt t + 1 * k) ≡ made old (onMap k v)
+    store-map h =
+        others 3 (mapAt t + 1 * k) (omega arith)
+        ∙ ap (λ f. mixed 3 (tabled f) old) (column-put at (mapAt t) 1 n k v h (λ j o e. omega arith))
+
+    store-locks : k < n → after (locksAt t n + 1 * k) ≡ made old (onLocks k v)
+    store-locks h =
+        others 4 (locksAt t n + 1 * k) (omega arith)
+        ∙ ap (λ f. mixed 4 (tabled f) old) (column-put at (locksAt t n) 1 n k v h (λ j o e. omega arith))
+
+    store-header : k < p → after (blocksAt t n + blockWords * k) ≡ made old (onHeader k v)
+    store-header h =
+        others 5 (blocksAt t n + blockWords * k) (omega arith)
+        ∙ ap (λ f. mixed 5 (tabled f) old) (column-put at (blocksAt t n) blockWords p k v h (λ j o e. omega arith))
+
+    store-content : k < p → after (blocksAt t n + 1 + blockWords * k) ≡ made old (onContent k v)
+    store-content h =
+        others 6 (blocksAt t n + 1 + blockWords * k) (omega arith)
+        ∙ ap (λ f. mixed 6 (tabled f) old) (column-put at (blocksAt t n + 1) blockWords p k v h (λ j o e. omega arith))
+
+    store-wear : k < p → after (blocksAt t n + 2 + blockWords * k) ≡ made old (onWear k v)
+    store-wear h =
+        others 7 (blocksAt t n + 2 + blockWords * k) (omega arith)
+        ∙ ap (λ f. mixed 7 (tabled f) old) (column-put at (blocksAt t n + 2) blockWords p k v h (λ j o e. omega arith))
+
+    store-own : k < p → after (blocksAt t n + 3 + blockWords * k) ≡ made old (onOwn k v)
+    store-own h =
+        others 8 (blocksAt t n + 3 + blockWords * k) (omega arith)
+        ∙ ap (λ f. mixed 8 (tabled f) old) (column-put at (blocksAt t n + 3) blockWords p k v h (λ j o e. omega arith))

@@ -238,7 +238,7 @@ module _ (s : Store) (r : InRange s) where
         c = thread-word k 3 (threadsAt + threadWords * k + 3) h (omega arith) (omega arith) i;
         p = thread-word k 4 (threadsAt + threadWords * k + 4) h (omega arith) (omega arith) i;
         q = thread-word k 5 (threadsAt + threadWords * k + 5) h (omega arith) (omega arith) i;
-        h = thread-word k 6 (threadsAt + threadWords * k + 6) h (omega arith) (omega arith) i
+        h = thread-word k 6 (threadsAt + threadWords * k + 6) h (omega arith) (omega arith) i;
       }
 
   -- the column of a block record's e-th words
@@ -268,7 +268,7 @@ module _ (s : Store) (r : InRange s) where
         header = block-column 0 (blocksAt (s .threads) (s .numbers)) (s .header) (omega arith) (omega arith) (λ k. refl) (r .header) i;
         content = block-column 1 _ (s .content) (omega arith) refl (λ k. refl) (r .content) i;
         wear = block-column 2 _ (s .wear) (omega arith) refl (λ k. refl) (r .wear) i;
-        own = block-column 3 _ (s .own) (omega arith) refl (λ k. refl) (r .own) i
+        own = block-column 3 _ (s .own) (omega arith) refl (λ k. refl) (r .own) i;
       }
 
   pub decode-encode : decode (encode s) ≡ s

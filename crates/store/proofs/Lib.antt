@@ -6,3 +6,4 @@ pub mod Decode
 pub mod Sound
 pub mod Codec
 pub mod Tables
+pub mod Filling

@@ -41,14 +41,15 @@ and-seven a b c d e f g h₇ =
     let h₅ = and-left (a && b && c && d && e) f h₆ in
     let h₄ = and-left (a && b && c && d) e h₅ in
     let h₃ = and-left (a && b && c) d h₄ in
-    let h₂ = and-left (a && b) c h₃ in
-    (and-left a b h₂,
-     and-right a b h₂,
-     and-right (a && b) c h₃,
-     and-right (a && b && c) d h₄,
-     and-right (a && b && c && d) e h₅,
-     and-right (a && b && c && d && e) f h₆,
-     and-right (a && b && c && d && e && f) g h₇)
+    let h₂ = and-left (a && b) c h₃ in (
+      and-left a b h₂,
+      and-right a b h₂,
+      and-right (a && b) c h₃,
+      and-right (a && b && c) d h₄,
+      and-right (a && b && c && d) e h₅,
+      and-right (a && b && c && d && e) f h₆,
+      and-right (a && b && c && d && e && f) g h₇,
+    )
 
 pub every-true : (n : ℕ) (test : ℕ → Bool) → every n test ≡ true → (k : ℕ) → k < n → test k ≡ true
 every-true zero test e k h = absurd (omega arith)
@@ -98,7 +99,7 @@ limits-sizes t n p d e =
       p-low = fp .0;
       p-high = fp .1;
       d-low = fd .0;
-      d-high = fd .1
+      d-high = fd .1;
     }
 
 pub sizes-limits : (t n p d : ℕ) → Sizes t n p d → inLimits t n p d ≡ true
@@ -126,8 +127,8 @@ SoundThread n p r = (r ≡ idle) ⊎ Working n p r
 zeros-idle : (r : Thread) → zeros r ≡ true → r ≡ idle
 zeros-idle r e =
     let z =
-        and-seven (eqb (r .op) 0) (eqb (r .line) 0) (eqb (r .n) 0) (eqb (r .c) 0) (eqb (r .p) 0) (eqb (r .q) 0)
-        (eqb (r .h) 0) e
+    and-seven (eqb (r .op) 0) (eqb (r .line) 0) (eqb (r .n) 0) (eqb (r .c) 0) (eqb (r .p) 0) (eqb (r .q) 0)
+    (eqb (r .h) 0) e
     in
     λ i.
     record {
@@ -137,14 +138,14 @@ zeros-idle r e =
       c = eqb-true (r .c) 0 (z .3) i;
       p = eqb-true (r .p) 0 (z .4) i;
       q = eqb-true (r .q) 0 (z .5) i;
-      h = eqb-true (r .h) 0 (z .6) i
+      h = eqb-true (r .h) 0 (z .6) i;
     }
 
 working-facts : (n p : ℕ) (r : Thread) → working n p r ≡ true → Working n p r
 working-facts n p r e =
     let z =
-        and-seven true (leb (r .op) LEVEL) (within 1 (lastLine (r .op)) (r .line)) (ltb (r .n) n) (ltb (r .p) p)
-        (ltb (r .q) p) (leb (r .h) n) e
+    and-seven true (leb (r .op) LEVEL) (within 1 (lastLine (r .op)) (r .line)) (ltb (r .n) n) (ltb (r .p) p)
+    (ltb (r .q) p) (leb (r .h) n) e
     in
     record {
       operation = leb-true _ _ (z .1);
@@ -152,7 +153,7 @@ working-facts n p r e =
       n-low = ltb-true _ _ (z .3);
       p-low = ltb-true _ _ (z .4);
       q-low = ltb-true _ _ (z .5);
-      h-low = leb-true _ _ (z .6)
+      h-low = leb-true _ _ (z .6);
     }
 
 facts-working : (n p : ℕ) (r : Thread) → Working n p r → working n p r ≡ true
@@ -205,23 +206,23 @@ pub sound-facts : (s : Store) → sound s ≡ true → Sound s
 sound-facts s e =
     let limits = inLimits (s .threads) (s .numbers) (s .blocks) (s .distance) in
     let z =
-        and-seven (leb (s .lock) (s .threads)) (leb (s .owner) (s .threads))
-        (every (s .threads) (λ t. soundThread (s .numbers) (s .blocks) (s .thread t)))
-        (every (s .numbers) (λ n. leb (s .map n) (s .blocks)))
-        (every (s .numbers) (λ n. leb (s .locks n) (s .threads)))
-        (every (s .blocks) (λ m. leb (s .header m) (s .numbers)))
-        (every (s .blocks) (λ m. leb (s .own m) (s .threads))) (and-right limits (inBounds s) e)
+    and-seven (leb (s .lock) (s .threads)) (leb (s .owner) (s .threads))
+    (every (s .threads) (λ t. soundThread (s .numbers) (s .blocks) (s .thread t)))
+    (every (s .numbers) (λ n. leb (s .map n) (s .blocks)))
+    (every (s .numbers) (λ n. leb (s .locks n) (s .threads)))
+    (every (s .blocks) (λ m. leb (s .header m) (s .numbers)))
+    (every (s .blocks) (λ m. leb (s .own m) (s .threads))) (and-right limits (inBounds s) e)
     in
     record {
       sizes = limits-sizes _ _ _ _ (and-left limits (inBounds s) e);
       lock = leb-true _ _ (z .0);
       owner = leb-true _ _ (z .1);
       thread =
-        λ t h. thread-sound _ _ _ (every-true (s .threads) (λ t. soundThread (s .numbers) (s .blocks) (s .thread t)) (z .2) t h);
+          λ t h. thread-sound _ _ _ (every-true (s .threads) (λ t. soundThread (s .numbers) (s .blocks) (s .thread t)) (z .2) t h);
       map = table-bound (s .map) _ _ (z .3);
       locks = table-bound (s .locks) _ _ (z .4);
       header = table-bound (s .header) _ _ (z .5);
-      own = table-bound (s .own) _ _ (z .6)
+      own = table-bound (s .own) _ _ (z .6);
     }
 
 pub facts-sound : (s : Store) → Sound s → sound s ≡ true
@@ -247,9 +248,10 @@ Fitted a = length a ≡ size (word a tAt) (word a nAt) (word a pAt)
 -- well-formedness of the area is soundness of the decoded store
 pub wellFormed-sound : (a : List ℕ) → (wellFormed a ≡ true) ↔ (Fitted a × Sound (decode a))
 unfolding wellFormed
-wellFormed-sound a =
-    (λ e. (eqb-true _ _ (and-left (fitted a) (sound (decode a)) e), sound-facts (decode a) (and-right (fitted a) (sound (decode a)) e)),
-     λ f. and-both (eq-eqb _ _ (f .0)) (facts-sound (decode a) (f .1)))
+wellFormed-sound a = (
+  λ e. (eqb-true _ _ (and-left (fitted a) (sound (decode a)) e), sound-facts (decode a) (and-right (fitted a) (sound (decode a)) e)),
+  λ f. and-both (eq-eqb _ _ (f .0)) (facts-sound (decode a) (f .1)),
+)
 
 -- an area's sizes, read
 pub record Head (a : List ℕ) (t n p d : ℕ) : Type 0 where
@@ -290,5 +292,5 @@ live-head {t = t} {n = n} {p = p} {d = d} h e f =
       numbers = sym (h .numbers);
       blocks = sym (h .blocks);
       few = (z .t-high, z .n-high, z .p-high);
-      fits = f
+      fits = f;
     }

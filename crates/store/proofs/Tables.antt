@@ -57,7 +57,7 @@ mixed x new old =
       header = cond (eqb x 5) (new .header) (old .header);
       content = cond (eqb x 6) (new .content) (old .content);
       wear = cond (eqb x 7) (new .wear) (old .wear);
-      own = cond (eqb x 8) (new .own) (old .own)
+      own = cond (eqb x 8) (new .own) (old .own);
     }
 
 kept : {A B : Type 0} (b : Bool) {x y : A} → Unless b B → (B → x ≡ y) → x ≡ cond b x y
@@ -88,7 +88,7 @@ module _ (new old : ℕ → ℕ) (lo hi : ℕ) (same : (i : ℕ) → Clear lo hi
         c = same (threadsAt + threadWords * k + 3) (a k h 3 (omega arith)) i;
         p = same (threadsAt + threadWords * k + 4) (a k h 4 (omega arith)) i;
         q = same (threadsAt + threadWords * k + 5) (a k h 5 (omega arith)) i;
-        h = same (threadsAt + threadWords * k + 6) (a k h 6 (omega arith)) i
+        h = same (threadsAt + threadWords * k + 6) (a k h 6 (omega arith)) i;
       }
 
   storeOf-mixed : (x t n p : ℕ) → Apart x t n p lo hi → storeOf new t n p ≡ mixed x (storeOf new t n p) (storeOf old t n p)
@@ -106,7 +106,7 @@ module _ (new old : ℕ → ℕ) (lo hi : ℕ) (same : (i : ℕ) → Clear lo hi
         header = kept (eqb x 5) (a .header) (column-kept (blocksAt t n) blockWords p) i;
         content = kept (eqb x 6) (a .content) (column-kept (blocksAt t n + 1) blockWords p) i;
         wear = kept (eqb x 7) (a .wear) (column-kept (blocksAt t n + 2) blockWords p) i;
-        own = kept (eqb x 8) (a .own) (column-kept (blocksAt t n + 3) blockWords p) i
+        own = kept (eqb x 8) (a .own) (column-kept (blocksAt t n + 3) blockWords p) i;
       }
 
 -- ---- the table that is put to
@@ -162,7 +162,7 @@ made s e =
       header = put (e .header) (s .header);
       content = put (e .content) (s .content);
       wear = put (e .wear) (s .wear);
-      own = put (e .own) (s .own)
+      own = put (e .own) (s .own);
     }
 
 pub apply-made : (s : Store) (t : ℕ) (r : Thread) (e : Effect) → apply s t r e ≡ made (apply s t r nothing) e
@@ -205,7 +205,7 @@ module _ (at : ℕ → ℕ) (t n p v : ℕ) where
         header = f;
         content = f;
         wear = f;
-        own = f
+        own = f;
       }
 
   module _ (k : ℕ) where

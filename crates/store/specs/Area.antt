@@ -83,7 +83,7 @@ threadFrom at i =
       c = at (i + 3);
       p = at (i + 4);
       q = at (i + 5);
-      h = at (i + 6)
+      h = at (i + 6);
     }
 
 -- the store with these sizes whose words are given by a function

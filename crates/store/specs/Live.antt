@@ -25,6 +25,12 @@ Within a k = 4 * k + 4 ≤ length a
 abbrev pub Reaches : List ℕ → ℕ → ℕ → ℕ → Type 0
 Reaches a from stride count = (k : ℕ) → k < count → Within a (from + stride * k)
 
+-- what a reading loop asks: the column is within the area and fits the array, which is full of zeros
+pub record Fills (a : List ℕ) (from stride count : ℕ) (into : List ℕ) (room : ℕ) : Type 0 where
+  pub reach : Reaches a from stride count
+  pub fit : count ≤ room
+  pub zeroed : into ≡ replicate room 0
+
 -- ---- the working store
 
 -- an array as a table
@@ -47,7 +53,7 @@ view w =
       header = table (w .header);
       content = table (w .content);
       wear = table (w .wear);
-      own = table (w .own)
+      own = table (w .own);
     }
 
 -- "filled with zeros at full size, 512 blocks and 256 map entries"
@@ -66,5 +72,5 @@ zeroFilled =
       header = replicate mostBlocks 0;
       content = replicate mostBlocks 0;
       wear = replicate mostBlocks 0;
-      own = replicate mostBlocks 0
+      own = replicate mostBlocks 0;
     }

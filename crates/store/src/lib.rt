@@ -10,8 +10,7 @@ ghost use Rattle.meaning.specs.Limits.{least, mostThreads, mostNumbers, mostBlo
 ghost use Rattle.meaning.specs.Programs.{lastLine};
 ghost use Rattle.store.specs.Layout.{lockAt, ownerAt, threadsAt, threadWords, mapAt, locksAt, blocksAt, blockWords, size};
 ghost use Rattle.store.specs.Area.{word, putWord, putThread, threadFrom, column, decode, soundThread, inBounds, wellFormed};
-ghost use Rattle.store.specs.Live.{Live, Within, Reaches, table, view, zeroFilled};
-
+ghost use Rattle.store.specs.Live.{Live, Within, Reaches, Fills, table, view, zeroFilled};
 use meaning::Thread;
 
 // ---- the working store and the limits
@@ -36,10 +35,15 @@ pub struct Store {
 impl Store {
     // Document 01, "Sizes and the store area". Each of T, N and D is at least MIN, and P at least N + 1.
     pub const MIN: u32 = 1;
+
     pub const MAX_T: usize = 16;
+
     pub const MAX_N: usize = 256;
+
     pub const MAX_P: usize = 512;
+
     pub const MAX_D: u32 = 1000;
+
     pub const THREAD_CELLS: usize = 112;
 
     // All zeros.
@@ -88,7 +92,10 @@ pub fn word_at(area: &[u8], k: usize) -> u32
     ensures { λ r. ⌜ r ≡ word (now (area .entry)) k ⌝ }
 {
     let i = 4 * k;
-    wide(area[i]) + 256 * wide(area[i + 1]) + 65536 * wide(area[i + 2]) + 16777216 * wide(area[i + 3])
+    wide(area[i])
+        + 256 * wide(area[i + 1])
+        + 65536 * wide(area[i + 2])
+        + 16777216 * wide(area[i + 3])
 }
 
 // Word k of the area becomes v, and nothing else changes.
@@ -106,16 +113,27 @@ pub fn put_word(area: &mut [u8], k: usize, v: u32)
 // ---- where the tables stand, in words
 
 const T_AT: usize = 0;
+
 const N_AT: usize = 1;
+
 const P_AT: usize = 2;
+
 const D_AT: usize = 3;
+
 const LOCK_AT: usize = 4;
+
 const OWNER_AT: usize = 5;
+
 const THREADS_AT: usize = 6;
+
 const THREAD_WORDS: usize = 7;
+
 const BLOCK_WORDS: usize = 4;
+
 const CONTENT: usize = 1;
+
 const WEAR: usize = 2;
+
 const OWN: usize = 3;
 
 fn map_at(t: usize) -> usize
@@ -180,7 +198,12 @@ fn thread_sound(r: Thread, n: u32, p: u32) -> bool
     if r.op == 0 {
         return (r.line == 0) & (r.n == 0) & (r.c == 0) & (r.p == 0) & (r.q == 0) & (r.h == 0);
     }
-    (r.op <= 4) & ((1 <= r.line) & (r.line <= last_line(r.op))) & (r.n < n) & (r.p < p) & (r.q < p) & (r.h <= n)
+    (r.op <= 4)
+        & ((1 <= r.line) & (r.line <= last_line(r.op)))
+        & (r.n < n)
+        & (r.p < p)
+        & (r.q < p)
+        & (r.h <= n)
 }
 
 // The thread record whose words begin at a cell.
@@ -330,4 +353,89 @@ pub fn set_own(area: &mut [u8], t: usize, n: usize, k: usize, v: u32)
 {
     let cell = blocks_at(t, n) + OWN + BLOCK_WORDS * k;
     put_word(area, cell, v);
+}
+
+// ---- loading: the words of a column into an array of zeros, for each length that the working store has
+
+fn read_threads(
+    area: &[u8],
+    from: usize,
+    stride: usize,
+    count: usize,
+    into: &mut [u32; Store::THREAD_CELLS],
+)
+    requires { ⌜ Fills (now area) from stride count (now into) (threadWords * mostThreads) ⌝ }
+    ensures { λ _. ⌜ table (now (into .exit)) ≡ column (word (now (area .entry))) from stride count ⌝ }
+{
+    let mut k: usize = 0;
+    while k < count {
+        let cell = from + stride * k;
+        into[k] = word_at(area, cell);
+        k += 1;
+    }
+}
+
+fn read_numbers(
+    area: &[u8],
+    from: usize,
+    stride: usize,
+    count: usize,
+    into: &mut [u32; Store::MAX_N],
+)
+    requires { ⌜ Fills (now area) from stride count (now into) mostNumbers ⌝ }
+    ensures { λ _. ⌜ table (now (into .exit)) ≡ column (word (now (area .entry))) from stride count ⌝ }
+{
+    let mut k: usize = 0;
+    while k < count {
+        let cell = from + stride * k;
+        into[k] = word_at(area, cell);
+        k += 1;
+    }
+}
+
+fn read_blocks(
+    area: &[u8],
+    from: usize,
+    stride: usize,
+    count: usize,
+    into: &mut [u32; Store::MAX_P],
+)
+    requires { ⌜ Fills (now area) from stride count (now into) mostBlocks ⌝ }
+    ensures { λ _. ⌜ table (now (into .exit)) ≡ column (word (now (area .entry))) from stride count ⌝ }
+{
+    let mut k: usize = 0;
+    while k < count {
+        let cell = from + stride * k;
+        into[k] = word_at(area, cell);
+        k += 1;
+    }
+}
+
+// The working store of a live area.
+pub fn load(area: &[u8], t: usize, n: usize, p: usize) -> Store
+    requires { ⌜ Live (now area) t n p ⌝ }
+    ensures { λ r. ⌜ view r ≡ decode (now (area .entry)) ⌝ }
+{
+    let map = map_at(t);
+    let locks = locks_at(t, n);
+    let header = blocks_at(t, n);
+    let content = header + CONTENT;
+    let wear = header + WEAR;
+    let own = header + OWN;
+    let threads = THREAD_WORDS * t;
+    let mut s = Store::fresh();
+    s.t = word_at(area, T_AT);
+    s.n = word_at(area, N_AT);
+    s.p = word_at(area, P_AT);
+    s.d = word_at(area, D_AT);
+    s.lock = word_at(area, LOCK_AT);
+    s.owner = word_at(area, OWNER_AT);
+    read_threads(area, THREADS_AT, 1, threads, &mut s.threads);
+    read_numbers(area, map, 1, n, &mut s.map);
+    read_numbers(area, locks, 1, n, &mut s.locks);
+    read_blocks(area, header, BLOCK_WORDS, p, &mut s.header);
+    read_blocks(area, content, BLOCK_WORDS, p, &mut s.content);
+    read_blocks(area, wear, BLOCK_WORDS, p, &mut s.wear);
+    read_blocks(area, own, BLOCK_WORDS, p, &mut s.own);
+    s
 }

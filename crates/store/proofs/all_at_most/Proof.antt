@@ -35,10 +35,11 @@ word-at-requires c κs = c .before .before .before .pre (c .before .loop .k) (om
 
 loop-again : tie.Need-loop-again Inv-loop μ-loop
 loop-again c =
-    let a = c .before .before .before .before .args in
-    (omega arith,
-     every-more (test (a .area .now) (a .from) (a .stride) (a .bound)) _ (c .before .before .loop .inv .1)
-     (ap (λ w. leb w (a .bound)) (c .word-at .ensures)))
+    let a = c .before .before .before .before .args in (
+      omega arith,
+      every-more (test (a .area .now) (a .from) (a .stride) (a .bound)) _ (c .before .before .loop .inv .1)
+          (ap (λ w. leb w (a .bound)) (c .word-at .ensures)),
+    )
 
 returns : tie.Need-returns Inv-loop μ-loop
 returns c =

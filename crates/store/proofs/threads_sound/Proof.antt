@@ -35,10 +35,11 @@ thread-at-requires c κs = omega (arith, c .before .before .before .pre (c .befo
 
 loop-again : tie.Need-loop-again Inv-loop μ-loop
 loop-again c =
-    let a = c .before .before .before .before .before .args in
-    (omega arith,
-     every-more (test (a .area .now) (a .n) (a .p)) _ (c .before .before .before .loop .inv .1)
-     (c .thread-sound .ensures ∙ ap (soundThread (a .n) (a .p)) (c .before .thread-at .ensures)))
+    let a = c .before .before .before .before .before .args in (
+      omega arith,
+      every-more (test (a .area .now) (a .n) (a .p)) _ (c .before .before .before .loop .inv .1)
+          (c .thread-sound .ensures ∙ ap (soundThread (a .n) (a .p)) (c .before .thread-at .ensures)),
+    )
 
 returns : tie.Need-returns Inv-loop μ-loop
 returns c =

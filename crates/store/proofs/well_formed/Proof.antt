@@ -19,7 +19,7 @@ head c =
       threads = c .before .before .before .before .word-at .ensures;
       numbers = c .before .before .before .word-at2 .ensures;
       blocks = c .before .before .word-at3 .ensures;
-      distance = c .before .word-at4 .ensures
+      distance = c .before .word-at4 .ensures;
     }
 
 -- and where they are in their limits

@@ -14,8 +14,12 @@ use Rattle.meaning.specs.declared.Entry.the-variants.{Keep, Put}
 use Rattle.meaning.specs.Table.{upd, below}
 use Rattle.meaning.specs.Store.{Store, idle}
 use Rattle.meaning.specs.Step.{become, put, apply, nothing, onLock, onOwner, onMap, onLocks, onHeader, onContent, onOwn}
-use Rattle.store.specs.Layout.{dAt, lockAt, ownerAt, threadsAt, threadWords, mapAt, locksAt, blocksAt, blockWords}
-use Rattle.store.specs.Area.{word, putWord, threadFrom, column, storeOf, decode}
+use Rattle.meaning.specs.Limits.{mostWord}
+use Rattle.store.specs.Layout.{tAt, nAt, pAt, dAt, lockAt, ownerAt, threadsAt, threadWords, mapAt, locksAt, blocksAt, blockWords}
+use Rattle.store.specs.Area.{word, putWord, putThread, threadFrom, column, storeOf, decode}
+use Rattle.store.specs.Live.{Live, Within}
+use Rattle.store.proofs.Words.{word-put, length-putWord}
+use Rattle.store.proofs.Decode.{decode-live}
 
 -- ---- tables that are kept
 
@@ -58,6 +62,25 @@ mixed x new old =
       content = cond (eqb x 6) (new .content) (old .content);
       wear = cond (eqb x 7) (new .wear) (old .wear);
       own = cond (eqb x 8) (new .own) (old .own);
+    }
+
+-- a store with one table of records and one of numbers: `mixed x (uniform g f) old` is old with g or f as its table x
+abbrev uniform : (ℕ → Thread) → (ℕ → ℕ) → Store
+uniform g f =
+    record {
+      threads = 0;
+      numbers = 0;
+      blocks = 0;
+      distance = 0;
+      lock = 0;
+      owner = 0;
+      thread = g;
+      map = f;
+      locks = f;
+      header = f;
+      content = f;
+      wear = f;
+      own = f;
     }
 
 kept : {A B : Type 0} (b : Bool) {x y : A} → Unless b B → (B → x ≡ y) → x ≡ cond b x y
@@ -189,52 +212,235 @@ module _ (at : ℕ → ℕ) (t n p v : ℕ) where
   store-owner : after ownerAt ≡ made old (onOwner v)
   store-owner = others 1 ownerAt (omega arith)
 
-  -- a store all of whose tables of numbers are f: `mixed x (tabled f) old` is old with f as its table x
-  abbrev tabled : (ℕ → ℕ) → Store
-  tabled f =
-      record {
-        threads = 0;
-        numbers = 0;
-        blocks = 0;
-        distance = 0;
-        lock = 0;
-        owner = 0;
-        thread = λ _. idle;
-        map = f;
-        locks = f;
-        header = f;
-        content = f;
-        wear = f;
-        own = f;
-      }
-
   module _ (k : ℕ) where
     store-map : k < n → after (mapAt t + 1 * k) ≡ made old (onMap k v)
     store-map h =
         others 3 (mapAt t + 1 * k) (omega arith)
-        ∙ ap (λ f. mixed 3 (tabled f) old) (column-put at (mapAt t) 1 n k v h (λ j o e. omega arith))
+        ∙ ap (λ f. mixed 3 (uniform (λ _. idle) f) old) (column-put at (mapAt t) 1 n k v h (λ j o e. omega arith))
 
     store-locks : k < n → after (locksAt t n + 1 * k) ≡ made old (onLocks k v)
     store-locks h =
         others 4 (locksAt t n + 1 * k) (omega arith)
-        ∙ ap (λ f. mixed 4 (tabled f) old) (column-put at (locksAt t n) 1 n k v h (λ j o e. omega arith))
+        ∙ ap (λ f. mixed 4 (uniform (λ _. idle) f) old) (column-put at (locksAt t n) 1 n k v h (λ j o e. omega arith))
 
     store-header : k < p → after (blocksAt t n + blockWords * k) ≡ made old (onHeader k v)
     store-header h =
         others 5 (blocksAt t n + blockWords * k) (omega arith)
-        ∙ ap (λ f. mixed 5 (tabled f) old) (column-put at (blocksAt t n) blockWords p k v h (λ j o e. omega arith))
+        ∙ ap (λ f. mixed 5 (uniform (λ _. idle) f) old) (column-put at (blocksAt t n) blockWords p k v h (λ j o e. omega arith))
 
     store-content : k < p → after (blocksAt t n + 1 + blockWords * k) ≡ made old (onContent k v)
     store-content h =
         others 6 (blocksAt t n + 1 + blockWords * k) (omega arith)
-        ∙ ap (λ f. mixed 6 (tabled f) old) (column-put at (blocksAt t n + 1) blockWords p k v h (λ j o e. omega arith))
+        ∙ ap (λ f. mixed 6 (uniform (λ _. idle) f) old) (column-put at (blocksAt t n + 1) blockWords p k v h (λ j o e. omega arith))
 
     store-wear : k < p → after (blocksAt t n + 2 + blockWords * k) ≡ made old (onWear k v)
     store-wear h =
         others 7 (blocksAt t n + 2 + blockWords * k) (omega arith)
-        ∙ ap (λ f. mixed 7 (tabled f) old) (column-put at (blocksAt t n + 2) blockWords p k v h (λ j o e. omega arith))
+        ∙ ap (λ f. mixed 7 (uniform (λ _. idle) f) old) (column-put at (blocksAt t n + 2) blockWords p k v h (λ j o e. omega arith))
 
     store-own : k < p → after (blocksAt t n + 3 + blockWords * k) ≡ made old (onOwn k v)
     store-own h =
         others 8 (blocksAt t n + 3 + blockWords * k) (omega arith)
-        ∙ ap (λ f. mixed 8 (tabled f) old) (column-put at (blocksAt t n + 3) blockWords p k v h (λ j o e. omega arith))
+        ∙ ap (λ f. mixed 8 (uniform (λ _. idle) f) old) (column-put at (blocksAt t n + 3) blockWords p k v h (λ j o e. omega arith))
+
+-- a thread's record that is put
+
+eqb-shift : (i a b : ℕ) → eqb (i + a) (i + b) ≡ eqb a b
+eqb-shift i a b = by-test (eqb a b) refl
+  where
+    by-test : (c : Bool) → eqb a b ≡ c → eqb (i + a) (i + b) ≡ c
+    by-test true e = eq-eqb _ _ (ap (λ x. i + x) (eqb-true a b e))
+    by-test false e = let o : a ≡ b → ⊥ = eqb-false a b e in ne-eqb (i + a) (i + b) (λ q. o (omega arith))
+
+eqb-past : (i a : ℕ) → 0 < a → eqb (i + a) i ≡ false
+eqb-past i a h = ne-eqb (i + a) i (λ e. omega arith)
+
+abbrev sevenPut : (ℕ → ℕ) → ℕ → Thread → ℕ → ℕ
+sevenPut at i r =
+    upd
+    (upd (upd (upd (upd (upd (upd at i (r .op)) (i + 1) (r .line)) (i + 2) (r .n)) (i + 3) (r .c)) (i + 4) (r .p)) (i + 5) (r .q))
+    (i + 6) (r .h)
+
+module _ (at : ℕ → ℕ) (i : ℕ) (r : Thread) where
+  seven-clear : (j : ℕ) → Clear i (i + 7) j → sevenPut at i r j ≡ at j
+  seven-clear j c =
+      simp (
+        ne-eqb (i + 6) j (λ e. c (omega arith) (omega arith)),
+        ne-eqb (i + 5) j (λ e. c (omega arith) (omega arith)),
+        ne-eqb (i + 4) j (λ e. c (omega arith) (omega arith)),
+        ne-eqb (i + 3) j (λ e. c (omega arith) (omega arith)),
+        ne-eqb (i + 2) j (λ e. c (omega arith) (omega arith)),
+        ne-eqb (i + 1) j (λ e. c (omega arith) (omega arith)),
+        ne-eqb i j (λ e. c (omega arith) (omega arith)),
+      )
+
+  seven-record : threadFrom (sevenPut at i r) i ≡ r
+  seven-record = simp (eqb-past i 6 (omega arith), eqb-past i 5 (omega arith), eqb-past i 4 (omega arith), eqb-past i 3 (omega arith), eqb-past i 2 (omega arith), eqb-past i 1 (omega arith), eq-eqb i i refl, eqb-shift)
+
+store-thread :
+    (at : ℕ → ℕ) (t n p k : ℕ) (r : Thread) → k < t →
+    storeOf (sevenPut at (threadsAt + threadWords * k) r) t n p ≡ apply (storeOf at t n p) k r nothing
+store-thread at t n p k r h =
+    storeOf-mixed (sevenPut at i r) at i (i + 7) (seven-clear at i r) 2 t n p (omega arith)
+    ∙ ap (λ (f : ℕ → Thread). mixed 2 (uniform f (λ _. 0)) (storeOf at t n p)) records
+  where
+    i : ℕ
+    i = threadsAt + threadWords * k
+
+    records :
+        below idle t (λ j. threadFrom (sevenPut at i r) (threadsAt + threadWords * j))
+        ≡ upd (below idle t (λ j. threadFrom at (threadsAt + threadWords * j))) k r
+    records = below-put idle t _ _ k r h (seven-record at i r) (λ j l o. elsewhere j o)
+      where
+        elsewhere : (j : ℕ) → (k ≡ j → ⊥) → threadFrom (sevenPut at i r) (threadsAt + threadWords * j) ≡ threadFrom at (threadsAt + threadWords * j)
+        elsewhere j o = λ d.
+            record {
+              op = seven-clear at i r (threadsAt + threadWords * j) (λ l u. omega arith) d;
+              line = seven-clear at i r (threadsAt + threadWords * j + 1) (λ l u. omega arith) d;
+              n = seven-clear at i r (threadsAt + threadWords * j + 2) (λ l u. omega arith) d;
+              c = seven-clear at i r (threadsAt + threadWords * j + 3) (λ l u. omega arith) d;
+              p = seven-clear at i r (threadsAt + threadWords * j + 4) (λ l u. omega arith) d;
+              q = seven-clear at i r (threadsAt + threadWords * j + 5) (λ l u. omega arith) d;
+              h = seven-clear at i r (threadsAt + threadWords * j + 6) (λ l u. omega arith) d;
+            }
+
+-- ---- the area: what each setter leaves
+
+-- a word past the sizes that is put
+module _ {a : List ℕ} {t n p : ℕ} (live : Live a t n p) (w x : ℕ) (inside : Within a w) (past : pAt < w) (fits : x ≤ mostWord) where
+  word-put-at : word (putWord a w x) ≡ upd (word a) w x
+  word-put-at = word-put a w x inside (omega arith)
+
+  pub live-put : Live (putWord a w x) t n p
+  live-put =
+      record {
+        threads = ap (λ (f : ℕ → ℕ). f tAt) word-put-at ∙ upd-other (word a) w x tAt (λ e. omega arith) ∙ live .threads;
+        numbers = ap (λ (f : ℕ → ℕ). f nAt) word-put-at ∙ upd-other (word a) w x nAt (λ e. omega arith) ∙ live .numbers;
+        blocks = ap (λ (f : ℕ → ℕ). f pAt) word-put-at ∙ upd-other (word a) w x pAt (λ e. omega arith) ∙ live .blocks;
+        few = live .few;
+        fits = length-putWord a w x ∙ live .fits;
+      }
+
+  -- an effect e that putting x as word w has on any store of these sizes it has on the decoded one
+  decode-put :
+      (e : Effect) → storeOf (upd (word a) w x) t n p ≡ made (storeOf (word a) t n p) e → decode (putWord a w x) ≡ made (decode a) e
+  decode-put e q =
+      decode-live live-put ∙ ap (λ (f : ℕ → ℕ). storeOf f t n p) word-put-at ∙ q ∙ ap (λ s. made s e) (sym (decode-live live))
+
+module _ {a : List ℕ} {t n p : ℕ} (live : Live a t n p) (k x : ℕ) (fits : x ≤ mostWord) where
+  pub decode-lock : decode (putWord a lockAt x) ≡ made (decode a) (onLock x)
+  decode-lock = decode-put live lockAt x (omega (arith, live .fits)) (omega arith) fits (onLock x) (store-lock (word a) t n p x)
+
+  pub decode-owner : decode (putWord a ownerAt x) ≡ made (decode a) (onOwner x)
+  decode-owner = decode-put live ownerAt x (omega (arith, live .fits)) (omega arith) fits (onOwner x) (store-owner (word a) t n p x)
+
+  pub decode-map : k < n → decode (putWord a (mapAt t + k) x) ≡ made (decode a) (onMap k x)
+  decode-map h =
+      let e : k ≡ 1 * k = omega arith in
+      ap (λ i. decode (putWord a (mapAt t + i) x)) e
+      ∙ decode-put live (mapAt t + 1 * k) x (omega (arith, live .fits)) (omega arith) fits (onMap k x) (store-map (word a) t n p x k h)
+
+  pub decode-locks : k < n → decode (putWord a (locksAt t n + k) x) ≡ made (decode a) (onLocks k x)
+  decode-locks h =
+      let e : k ≡ 1 * k = omega arith in
+      ap (λ i. decode (putWord a (locksAt t n + i) x)) e
+      ∙ decode-put live (locksAt t n + 1 * k) x (omega (arith, live .fits)) (omega arith) fits (onLocks k x) (store-locks (word a) t n p x k h)
+
+  pub decode-header : k < p → decode (putWord a (blocksAt t n + blockWords * k) x) ≡ made (decode a) (onHeader k x)
+  decode-header h =
+      decode-put live (blocksAt t n + blockWords * k) x (omega (arith, live .fits)) (omega arith) fits (onHeader k x)
+      (store-header (word a) t n p x k h)
+
+  pub decode-content : k < p → decode (putWord a (blocksAt t n + 1 + blockWords * k) x) ≡ made (decode a) (onContent k x)
+  decode-content h =
+      decode-put live (blocksAt t n + 1 + blockWords * k) x (omega (arith, live .fits)) (omega arith) fits (onContent k x)
+      (store-content (word a) t n p x k h)
+
+  pub decode-wear : k < p → decode (putWord a (blocksAt t n + 2 + blockWords * k) x) ≡ made (decode a) (onWear k x)
+  decode-wear h =
+      decode-put live (blocksAt t n + 2 + blockWords * k) x (omega (arith, live .fits)) (omega arith) fits (onWear k x)
+      (store-wear (word a) t n p x k h)
+
+  pub decode-own : k < p → decode (putWord a (blocksAt t n + 3 + blockWords * k) x) ≡ made (decode a) (onOwn k x)
+  decode-own h =
+      decode-put live (blocksAt t n + 3 + blockWords * k) x (omega (arith, live .fits)) (omega arith) fits (onOwn k x)
+      (store-own (word a) t n p x k h)
+
+-- a thread's record whose registers are words
+pub record Small (r : Thread) : Type 0 where
+  pub op : r .op ≤ mostWord
+  pub line : r .line ≤ mostWord
+  pub n : r .n ≤ mostWord
+  pub c : r .c ≤ mostWord
+  pub p : r .p ≤ mostWord
+  pub q : r .q ≤ mostWord
+  pub h : r .h ≤ mostWord
+
+module _ {a : List ℕ} {t n p : ℕ} (live : Live a t n p) (k : ℕ) (r : Thread) (small : Small r) (low : k < t) where
+  abbrev cell : ℕ
+  cell = threadsAt + threadWords * k
+
+  -- the area after one word, two words, ..
+  abbrev a₁ : List ℕ
+  a₁ = putWord a cell (r .op)
+
+  abbrev a₂ : List ℕ
+  a₂ = putWord a₁ (cell + 1) (r .line)
+
+  abbrev a₃ : List ℕ
+  a₃ = putWord a₂ (cell + 2) (r .n)
+
+  abbrev a₄ : List ℕ
+  a₄ = putWord a₃ (cell + 3) (r .c)
+
+  abbrev a₅ : List ℕ
+  a₅ = putWord a₄ (cell + 4) (r .p)
+
+  abbrev a₆ : List ℕ
+  a₆ = putWord a₅ (cell + 5) (r .q)
+
+  live₁ : Live a₁ t n p
+  live₁ = live-put live cell (r .op) (omega (arith, live .fits)) (omega arith) (small .op)
+
+  live₂ : Live a₂ t n p
+  live₂ = live-put live₁ (cell + 1) (r .line) (omega (arith, live₁ .fits)) (omega arith) (small .line)
+
+  live₃ : Live a₃ t n p
+  live₃ = live-put live₂ (cell + 2) (r .n) (omega (arith, live₂ .fits)) (omega arith) (small .n)
+
+  live₄ : Live a₄ t n p
+  live₄ = live-put live₃ (cell + 3) (r .c) (omega (arith, live₃ .fits)) (omega arith) (small .c)
+
+  live₅ : Live a₅ t n p
+  live₅ = live-put live₄ (cell + 4) (r .p) (omega (arith, live₄ .fits)) (omega arith) (small .p)
+
+  live₆ : Live a₆ t n p
+  live₆ = live-put live₅ (cell + 5) (r .q) (omega (arith, live₅ .fits)) (omega arith) (small .q)
+
+  pub live-thread : Live (putThread a cell r) t n p
+  live-thread = live-put live₆ (cell + 6) (r .h) (omega (arith, live₆ .fits)) (omega arith) (small .h)
+
+  word-thread : word (putThread a cell r) ≡ sevenPut (word a) cell r
+  word-thread =
+      put live₆ 6 (r .h) (omega arith) (small .h)
+      ∙ ap (λ f. upd f (cell + 6) (r .h))
+      (put live₅ 5 (r .q) (omega arith) (small .q)
+      ∙ ap (λ f. upd f (cell + 5) (r .q))
+      (put live₄ 4 (r .p) (omega arith) (small .p)
+      ∙ ap (λ f. upd f (cell + 4) (r .p))
+      (put live₃ 3 (r .c) (omega arith) (small .c)
+      ∙ ap (λ f. upd f (cell + 3) (r .c))
+      (put live₂ 2 (r .n) (omega arith) (small .n)
+      ∙ ap (λ f. upd f (cell + 2) (r .n))
+      (put live₁ 1 (r .line) (omega arith) (small .line)
+      ∙ ap (λ f. upd f (cell + 1) (r .line)) (word-put-at live cell (r .op) (omega (arith, live .fits)) (omega arith) (small .op)))))))
+    where
+      put : {b : List ℕ} → Live b t n p → (e x : ℕ) → e < 7 → x ≤ mostWord → word (putWord b (cell + e) x) ≡ upd (word b) (cell + e) x
+      put l e x h s = word-put-at l (cell + e) x (omega (arith, l .fits)) (omega arith) s
+
+  pub decode-thread : decode (putThread a cell r) ≡ apply (decode a) k r nothing
+  decode-thread =
+      decode-live live-thread
+      ∙ ap (λ (f : ℕ → ℕ). storeOf f t n p) word-thread
+      ∙ store-thread (word a) t n p k r low
+      ∙ ap (λ s. apply s k r nothing) (sym (decode-live live))

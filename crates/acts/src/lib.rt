@@ -1,0 +1,343 @@
+// The programs as tables, and the small by-value functions that a line is made of: records, effects, verdicts. Each is the definition
+// of the same name in the crate meaning (specs/Programs.antt, specs/Step.antt).
+ghost use mathlib.Core.Path.{_≡_};
+ghost use mathlib.Core.Bool.{cond};
+ghost use Prim.Native.Nat.{ℕ, _+_, _<_, _≤_};
+ghost use Rattle.meaning.specs.Programs.{actAt, lastLine};
+ghost use Rattle.meaning.specs.Step.{goto as gotoOf, onward as onwardOf, setN, setC, setP, setQ, setH, block as blockOf, nothing as nothingOf, onLock, onOwner, onMap, onLocks, onHeader, onContent, onFreed, onOwn, need as needOf, next as nextOf, worn as wornOf, moved as movedOf, answer as answerOf};
+
+use meaning::Act;
+use meaning::Answer;
+use meaning::Effect;
+use meaning::Entry;
+use meaning::Reg;
+use meaning::Thread;
+use meaning::Verdict;
+use meaning::Word;
+
+// ---- document 01, "The lines"
+
+const WRITING: [Act; 16] = [
+    Act::TakeH,
+    Act::TakeN,
+    Act::GoIfMapped(12),
+    Act::OwnHeaders,
+    Act::PickFree,
+    Act::Own(Reg::P),
+    Act::WriteHeaderN,
+    Act::EmptyContent,
+    Act::LetGo(Reg::P),
+    Act::MapTo(Reg::P),
+    Act::LetGoHeaders,
+    Act::ReleaseH,
+    Act::Own(Reg::P),
+    Act::WriteContent(Reg::P),
+    Act::LetGo(Reg::P),
+    Act::FinishN(Answer::Zero),
+];
+
+const READING: [Act; 6] = [
+    Act::TakeN,
+    Act::EmptyIfUnmapped(6),
+    Act::Own(Reg::P),
+    Act::ReadContent,
+    Act::LetGo(Reg::P),
+    Act::FinishN(Answer::C),
+];
+
+const UNMAPPING: [Act; 11] = [
+    Act::TakeH,
+    Act::TakeN,
+    Act::GoIfUnmapped(10),
+    Act::OwnHeaders,
+    Act::Own(Reg::P),
+    Act::Unmap,
+    Act::FreeHeader,
+    Act::LetGo(Reg::P),
+    Act::LetGoHeaders,
+    Act::ReleaseN,
+    Act::FinishH(Answer::Zero),
+];
+
+const LEVELLING: [Act; 18] = [
+    Act::TakeH,
+    Act::OwnHeaders,
+    Act::Choose,
+    Act::ReadHeader,
+    Act::GoIfFree(17),
+    Act::TakeN,
+    Act::Own(Reg::P),
+    Act::ReadContent,
+    Act::Own(Reg::Q),
+    Act::WriteHeaderH,
+    Act::WriteContent(Reg::Q),
+    Act::MapTo(Reg::Q),
+    Act::FreeHeader,
+    Act::LetGo(Reg::Q),
+    Act::LetGo(Reg::P),
+    Act::ReleaseN,
+    Act::LetGoHeaders,
+    Act::FinishH(Answer::Moved),
+];
+
+// The act at a line of an operation.
+pub fn act_at(op: u32, line: u32) -> Act
+    requires { ⌜ (op ≤ 4) × (0 < line) × (line ≤ lastLine op) ⌝ }
+    ensures { λ r. ⌜ r ≡ actAt op line ⌝ }
+{
+    let i = (line - 1) as usize;
+    match op {
+        1 => WRITING[i],
+        2 => READING[i],
+        3 => UNMAPPING[i],
+        4 => LEVELLING[i],
+        _ => Act::Nothing,
+    }
+}
+
+// ---- the thread's record
+
+pub fn goto(l: u32, r: Thread) -> Thread
+    ensures { λ x. ⌜ x ≡ gotoOf l r ⌝ }
+{
+    let mut x = r;
+    x.line = l;
+    x
+}
+
+pub fn onward(r: Thread) -> Thread
+    requires { ⌜ r .line < 4294967295 ⌝ }
+    ensures { λ x. ⌜ x ≡ onwardOf r ⌝ }
+{
+    goto(r.line + 1, r)
+}
+
+pub fn set_n(v: u32, r: Thread) -> Thread
+    ensures { λ x. ⌜ x ≡ setN v r ⌝ }
+{
+    let mut x = r;
+    x.n = v;
+    x
+}
+
+pub fn set_c(v: u32, r: Thread) -> Thread
+    ensures { λ x. ⌜ x ≡ setC v r ⌝ }
+{
+    let mut x = r;
+    x.c = v;
+    x
+}
+
+pub fn set_p(v: u32, r: Thread) -> Thread
+    ensures { λ x. ⌜ x ≡ setP v r ⌝ }
+{
+    let mut x = r;
+    x.p = v;
+    x
+}
+
+pub fn set_q(v: u32, r: Thread) -> Thread
+    ensures { λ x. ⌜ x ≡ setQ v r ⌝ }
+{
+    let mut x = r;
+    x.q = v;
+    x
+}
+
+pub fn set_h(v: u32, r: Thread) -> Thread
+    ensures { λ x. ⌜ x ≡ setH v r ⌝ }
+{
+    let mut x = r;
+    x.h = v;
+    x
+}
+
+pub fn block(b: Reg, r: Thread) -> u32
+    ensures { λ x. ⌜ x ≡ blockOf b r ⌝ }
+{
+    match b {
+        Reg::P => r.p,
+        Reg::Q => r.q,
+    }
+}
+
+// ---- effects
+
+pub fn nothing() -> Effect
+    ensures { λ e. ⌜ e ≡ nothingOf ⌝ }
+{
+    Effect {
+        lock: Word::Stay,
+        owner: Word::Stay,
+        map: Entry::Keep,
+        locks: Entry::Keep,
+        header: Entry::Keep,
+        content: Entry::Keep,
+        wear: Entry::Keep,
+        own: Entry::Keep,
+    }
+}
+
+pub fn on_lock(w: u32) -> Effect
+    ensures { λ e. ⌜ e ≡ onLock w ⌝ }
+{
+    Effect {
+        lock: Word::Become(w),
+        owner: Word::Stay,
+        map: Entry::Keep,
+        locks: Entry::Keep,
+        header: Entry::Keep,
+        content: Entry::Keep,
+        wear: Entry::Keep,
+        own: Entry::Keep,
+    }
+}
+
+pub fn on_owner(w: u32) -> Effect
+    ensures { λ e. ⌜ e ≡ onOwner w ⌝ }
+{
+    Effect {
+        lock: Word::Stay,
+        owner: Word::Become(w),
+        map: Entry::Keep,
+        locks: Entry::Keep,
+        header: Entry::Keep,
+        content: Entry::Keep,
+        wear: Entry::Keep,
+        own: Entry::Keep,
+    }
+}
+
+pub fn on_map(n: u32, w: u32) -> Effect
+    ensures { λ e. ⌜ e ≡ onMap n w ⌝ }
+{
+    Effect {
+        lock: Word::Stay,
+        owner: Word::Stay,
+        map: Entry::Put(n, w),
+        locks: Entry::Keep,
+        header: Entry::Keep,
+        content: Entry::Keep,
+        wear: Entry::Keep,
+        own: Entry::Keep,
+    }
+}
+
+pub fn on_locks(n: u32, w: u32) -> Effect
+    ensures { λ e. ⌜ e ≡ onLocks n w ⌝ }
+{
+    Effect {
+        lock: Word::Stay,
+        owner: Word::Stay,
+        map: Entry::Keep,
+        locks: Entry::Put(n, w),
+        header: Entry::Keep,
+        content: Entry::Keep,
+        wear: Entry::Keep,
+        own: Entry::Keep,
+    }
+}
+
+pub fn on_header(m: u32, w: u32) -> Effect
+    ensures { λ e. ⌜ e ≡ onHeader m w ⌝ }
+{
+    Effect {
+        lock: Word::Stay,
+        owner: Word::Stay,
+        map: Entry::Keep,
+        locks: Entry::Keep,
+        header: Entry::Put(m, w),
+        content: Entry::Keep,
+        wear: Entry::Keep,
+        own: Entry::Keep,
+    }
+}
+
+pub fn on_content(m: u32, w: u32) -> Effect
+    ensures { λ e. ⌜ e ≡ onContent m w ⌝ }
+{
+    Effect {
+        lock: Word::Stay,
+        owner: Word::Stay,
+        map: Entry::Keep,
+        locks: Entry::Keep,
+        header: Entry::Keep,
+        content: Entry::Put(m, w),
+        wear: Entry::Keep,
+        own: Entry::Keep,
+    }
+}
+
+pub fn on_freed(m: u32, w: u32) -> Effect
+    ensures { λ e. ⌜ e ≡ onFreed m w ⌝ }
+{
+    Effect {
+        lock: Word::Stay,
+        owner: Word::Stay,
+        map: Entry::Keep,
+        locks: Entry::Keep,
+        header: Entry::Put(m, 0),
+        content: Entry::Keep,
+        wear: Entry::Put(m, w),
+        own: Entry::Keep,
+    }
+}
+
+pub fn on_own(m: u32, w: u32) -> Effect
+    ensures { λ e. ⌜ e ≡ onOwn m w ⌝ }
+{
+    Effect {
+        lock: Word::Stay,
+        owner: Word::Stay,
+        map: Entry::Keep,
+        locks: Entry::Keep,
+        header: Entry::Keep,
+        content: Entry::Keep,
+        wear: Entry::Keep,
+        own: Entry::Put(m, w),
+    }
+}
+
+// ---- verdicts
+
+pub fn need(met: bool, v: Verdict) -> Verdict
+    ensures { λ x. ⌜ x ≡ needOf met v ⌝ }
+{
+    if met { v } else { Verdict::Fault }
+}
+
+// `is_free` says whether the lock is.
+pub fn take(is_free: bool, v: Verdict) -> Verdict
+    ensures { λ x. ⌜ x ≡ cond «is_free» v Verdict.Blocked ⌝ }
+{
+    if is_free { v } else { Verdict::Blocked }
+}
+
+pub fn next(r: Thread, e: Effect) -> Verdict
+    requires { ⌜ r .line < 4294967295 ⌝ }
+    ensures { λ x. ⌜ x ≡ nextOf r e ⌝ }
+{
+    Verdict::Go(onward(r), e)
+}
+
+pub fn worn(w: u32) -> u32
+    ensures { λ x. ⌜ x ≡ wornOf w ⌝ }
+{
+    if w < 4294967295 { w + 1 } else { w }
+}
+
+pub fn moved(h: u32) -> u32
+    ensures { λ x. ⌜ x ≡ movedOf h ⌝ }
+{
+    if h == 0 { 0 } else { 1 }
+}
+
+pub fn answer(a: Answer, r: Thread) -> u32
+    ensures { λ x. ⌜ x ≡ answerOf a r ⌝ }
+{
+    match a {
+        Answer::Zero => 0,
+        Answer::C => r.c,
+        Answer::Moved => moved(r.h),
+    }
+}

@@ -1,0 +1,252 @@
+-- A step of one thread keeps what the others hold and know. What a step's effect changes, its thread has what guards it (`Guards`);
+-- what another thread knows of a word, that thread has what guards it (the table, tested at each line by computation). So one law
+-- a kind of fact is enough, and no two lines or acts are compared.
+-- Assumes nothing.
+use mathlib.Core.Path.{_≡_, refl, sym, ap, _∙_, subst, fun-ext}
+use mathlib.Core.Bool.{Bool, true, false, not, cond, _&&_, _||_, or-true}
+use mathlib.Core.Logic.{_⊎_, inl, inr}
+use Prim.Native.Nat.{ℕ, zero, suc, _+_, _<_, _≤_}
+use native.Mathlib.Omega.{arith}
+use native.Mathlib.Nat.{le-of-suc-le-suc}
+use lib.Dec.{eqb, ltb, leb}
+use borrow.Author.Tests.{eqb-true, eqb-false, eq-eqb, ne-eqb, leb-true}
+use Rattle.meaning.specs.declared.Thread.{Thread}
+use Rattle.meaning.specs.declared.Word.{Word}
+use Rattle.meaning.specs.declared.Word.the-variants.{Stay, Become}
+use Rattle.meaning.specs.declared.Entry.{Entry}
+use Rattle.meaning.specs.declared.Entry.the-variants.{Keep, Put}
+use Rattle.meaning.specs.declared.Effect.{Effect}
+use Rattle.meaning.specs.Table.{upd, every}
+use Rattle.meaning.specs.Limits.{within}
+use Rattle.meaning.specs.Store.{Store, idle}
+use Rattle.meaning.specs.Holding.{none, free, by, heldBy, naming, named}
+use Rattle.meaning.specs.Programs.{WRITE, LEVEL, lastLine}
+use Rattle.meaning.specs.Step.{become, put, apply}
+use Rattle.meaning.proofs.Words.{same, either, clash, and-left, and-right, or-either, by-held, by-other, none-held, free-held, held-once, naming-named, upd-same, upd-other, upd-each}
+use Rattle.meaning.proofs.Invariant.{holdsH, holdsN, ownsHeaders, ownsP, ownsQ, n-unmapped, n-on-p, n-on-q, p-free, q-free, p-headed, q-headed, h-heads-p, p-astray, q-astray, chosen-now, c-of-p, q-has-c, c-of-n, If, holdsLock, ownsBlock, leadsAstray, Holds, kept, Chosen, Facts, onLine, Stands, Changes, Puts, Passes, GuardsMap, GuardsHeader, GuardsContent, GuardsWear, Guards, Agrees, Astray, Inv}
+
+-- ---- a rule of the table, tested at every line
+
+abbrev pub standing : ℕ → ℕ → Thread
+standing op line = record { op = op; line = line; n = 0; c = 0; p = 0; q = 0; h = 0 }
+
+-- the test at idle and at each line of each operation
+abbrev pub everyLine : (ℕ → ℕ → Bool) → Bool
+everyLine test = every (LEVEL + 1) (λ op. every (lastLine op + 1) (test op))
+
+every-at : (k : ℕ) (test : ℕ → Bool) → every k test ≡ true → (l : ℕ) → l < k → test l ≡ true
+every-at zero test all l below = absurd (omega arith)
+every-at (suc k) test all l below =
+    go (λ b. every-at k test (and-left (every k test) (test k) all) l b) (either (eqb l k))
+  where
+    go : (l < k → test l ≡ true) → (eqb l k ≡ true) ⊎ (eqb l k ≡ false) → test l ≡ true
+    go rest (inl e) = rw (eqb-true l k e) (and-right (every k test) (test k) all)
+    go rest (inr e) = let apart : l ≡ k → ⊥ = eqb-false l k e in rest (omega arith)
+
+pub everywhere : (test : ℕ → ℕ → Bool) → everyLine test ≡ true → (r : Thread) → Stands r → test (r .op) (r .line) ≡ true
+everywhere test all r (inl i) =
+    rw i (every-at 1 (test 0) (every-at 5 (λ op. every (lastLine op + 1) (test op)) all 0 (omega arith)) 0 (omega arith))
+everywhere test all r (inr o) =
+    let op : r .op ≤ LEVEL =
+    leb-true (r .op) LEVEL (and-right (leb 1 (r .op)) _ (and-left (within WRITE LEVEL (r .op)) _ o)) in
+    let line : r .line ≤ lastLine (r .op) =
+    leb-true (r .line) (lastLine (r .op)) (and-right (leb 1 (r .line)) _ (and-right (within WRITE LEVEL (r .op)) _ o)) in
+    every-at (lastLine (r .op) + 1) (test (r .op))
+    (every-at 5 (λ op. every (lastLine op + 1) (test op)) all (r .op) (omega arith)) (r .line) (omega arith)
+
+-- where the one flag is up, so is the other
+abbrev pub implies : (Thread → Bool) → (Thread → Bool) → Bool
+implies a b = everyLine (λ op line. not (a (standing op line)) || b (standing op line))
+
+pub up : (a b : Thread → Bool) → implies a b ≡ true → (r : Thread) → Stands r → a (standing (r .op) (r .line)) ≡ true → b (standing (r .op) (r .line)) ≡ true
+up a b all r st x = rw x at (everywhere (λ op line. not (a (standing op line)) || b (standing op line)) all r st)
+
+-- ---- words and tables that another thread keeps
+
+passes-other : (t v w w′ : ℕ) → (t ≡ v → ⊥) → Passes t w w′ → heldBy v w′ ≡ heldBy v w
+passes-other t v w w′ apart x = go (x .passed) ∙ sym (old (or-either (free w) (heldBy t w) (x .had)))
+  where
+    old : (free w ≡ true) ⊎ (heldBy t w ≡ true) → heldBy v w ≡ false
+    old (inl f) = free-held v w f
+    old (inr h) = rw (eqb-true w (t + 1) h) (by-other t v apart)
+
+    go : (w′ ≡ none) ⊎ (w′ ≡ by t) → heldBy v w′ ≡ false
+    go (inl e) = rw e (none-held v)
+    go (inr e) = rw e (by-other t v apart)
+
+word-kept : (t v : ℕ) → (t ≡ v → ⊥) → (c : Word) (w : ℕ) → Changes c (Passes t w) → heldBy v (become c w) ≡ heldBy v w
+word-kept t v apart Stay w x = refl
+word-kept t v apart (Become w′) w x = passes-other t v w w′ apart x
+
+entry-kept : (t v : ℕ) → (t ≡ v → ⊥) → (c : Entry) (f : ℕ → ℕ) → Puts c (λ k. Passes t (f k)) → (k : ℕ) → heldBy v (put c f k) ≡ heldBy v (f k)
+entry-kept t v apart Keep f x k = refl
+entry-kept t v apart (Put i w) f x k =
+    upd-each (λ k y. heldBy v y ≡ heldBy v (f k)) f i w (passes-other t v (f i) w apart x) (λ k _. refl) k
+
+-- an entry whose guard its writer can't have stays as it was
+put-kept : (c : Entry) (f : ℕ → ℕ) (guard : ℕ → ℕ → Type 0) → Puts c guard → (k : ℕ) → ((w : ℕ) → guard k w → ⊥) → put c f k ≡ f k
+put-kept Keep f guard g k lacks = refl
+put-kept (Put i w) f guard g k lacks = upd-other f i k w (λ e. lacks w (subst (λ (j : ℕ). guard j w) e g))
+
+-- to show what counts where a flag is up, take it to be up
+where-up : (b : Bool) (A : Type 0) → (b ≡ true → If b A) → If b A
+where-up true A f = f refl
+where-up false A f = tt
+
+-- a thread that knows a map entry holds the number's lock or owns the headers
+abbrev reads-map : Thread → Bool
+reads-map r = holdsN r || ownsHeaders r
+
+pub p-owned : (r : Thread) → ownsP r ≡ true → ownsBlock r (r .p) ≡ true
+p-owned r x = rw (x, same (r .p))
+
+pub q-owned : (r : Thread) → ownsQ r ≡ true → ownsBlock r (r .q) ≡ true
+q-owned r x = rw (x, same (r .q)) (or-true (ownsP r && eqb (r .p) (r .q)))
+
+-- ---- a step of t, seen by another thread v
+
+module _ (s : Store) (I : Inv s) (t : ℕ) (e : Effect) (G : Guards s t e) (v : ℕ) (apart : t ≡ v → ⊥) where
+  -- t has no lock, owner or block that v has
+  lock-lacks : holdsH (s .thread v) ≡ true → heldBy t (s .lock) ≡ true → ⊥
+  lock-lacks x h = apart (held-once t v (s .lock) h (I .holds v .lock ∙ x))
+
+  owner-lacks : ownsHeaders (s .thread v) ≡ true → heldBy t (s .owner) ≡ true → ⊥
+  owner-lacks x h = apart (held-once t v (s .owner) h (I .holds v .owner ∙ x))
+
+  locks-lacks : holdsN (s .thread v) ≡ true → heldBy t (s .locks (s .thread v .n)) ≡ true → ⊥
+  locks-lacks x h =
+      let mine : heldBy v (s .locks (s .thread v .n)) ≡ true = I .holds v .locks (s .thread v .n) ∙ rw (x, same (s .thread v .n)) in
+      apart (held-once t v (s .locks (s .thread v .n)) h mine)
+
+  own-lacks : (m : ℕ) → ownsBlock (s .thread v) m ≡ true → heldBy t (s .own m) ≡ true → ⊥
+  own-lacks m x h = apart (held-once t v (s .own m) h (I .holds v .own m ∙ x))
+
+  -- so what v knows stays
+  map-kept : (holdsN (s .thread v) || ownsHeaders (s .thread v)) ≡ true → put (e .map) (s .map) (s .thread v .n) ≡ s .map (s .thread v .n)
+  map-kept x =
+      put-kept (e .map) (s .map) (λ k w. GuardsMap s t k) (G .map) (s .thread v .n)
+      (λ w g. lacks g (or-either (holdsN (s .thread v)) (ownsHeaders (s .thread v)) x))
+    where
+      lacks : GuardsMap s t (s .thread v .n) → (holdsN (s .thread v) ≡ true) ⊎ (ownsHeaders (s .thread v) ≡ true) → ⊥
+      lacks g (inl y) = locks-lacks y (g .locks)
+      lacks g (inr y) = owner-lacks y (g .owner)
+
+  header-kept : ownsHeaders (s .thread v) ≡ true → put (e .header) (s .header) ≡ s .header
+  header-kept x =
+      fun-ext (λ m. put-kept (e .header) (s .header) (λ m w. GuardsHeader s t m) (G .header) m (λ w g. owner-lacks x (g .owner)))
+
+  wear-kept : holdsH (s .thread v) ≡ true → put (e .wear) (s .wear) ≡ s .wear
+  wear-kept x =
+      fun-ext (λ m. put-kept (e .wear) (s .wear) (λ m w. GuardsWear s t m) (G .wear) m (λ w g. lock-lacks x (g .lock)))
+
+  content-kept : (m : ℕ) → ownsBlock (s .thread v) m ≡ true → put (e .content) (s .content) m ≡ s .content m
+  content-kept m x =
+      put-kept (e .content) (s .content) (λ m w. GuardsContent s t m) (G .content) m (λ w g. own-lacks m x (g .own))
+
+  seen-kept : (r′ : Thread) → holdsN (s .thread v) ≡ true → kept (apply s t r′ e) (s .thread v .n) ≡ kept s (s .thread v .n)
+  seen-kept r′ x =
+      rw (map-kept (rw x)) (go (either (free (s .map (s .thread v .n)))))
+    where
+      go : (free (s .map (s .thread v .n)) ≡ true) ⊎ (free (s .map (s .thread v .n)) ≡ false) → cond (free (s .map (s .thread v .n))) 0 (put (e .content) (s .content) (named (s .map (s .thread v .n)))) ≡ kept s (s .thread v .n)
+      go (inl f) = rw f
+      go (inr f) =
+          rw (
+            f,
+            put-kept (e .content) (s .content) (λ m w. GuardsContent s t m) (G .content) (named (s .map (s .thread v .n)))
+                (λ w g. locks-lacks x (g .locks (s .thread v .n) (naming-named (s .map (s .thread v .n)) f))),
+          )
+
+  holds-kept : (r′ : Thread) → Holds (apply s t r′ e) v (s .thread v)
+  holds-kept r′ =
+      record {
+        lock = word-kept t v apart (e .lock) (s .lock) (G .lock) ∙ I .holds v .lock;
+        owner = word-kept t v apart (e .owner) (s .owner) (G .owner) ∙ I .holds v .owner;
+        locks = λ k. entry-kept t v apart (e .locks) (s .locks) (G .locks) k ∙ I .holds v .locks k;
+        own = λ m. entry-kept t v apart (e .own) (s .own) (G .own) m ∙ I .holds v .own m;
+      }
+
+  facts-kept : (r′ : Thread) → Facts (apply s t r′ e) (s .thread v)
+  facts-kept r′ =
+      let r = s .thread v in
+      let f = I .facts v in
+      let st = I .stands v in
+      record {
+        n-below = f .n-below;
+        p-below = f .p-below;
+        q-below = f .q-below;
+        h-below = f .h-below;
+        unmapped = where-up (n-unmapped r) _ (λ x. rw (map-kept (up n-unmapped reads-map refl r st x)) (f .unmapped));
+        on-p = where-up (n-on-p r) _ (λ x. rw (map-kept (up n-on-p reads-map refl r st x)) (f .on-p));
+        on-q = where-up (n-on-q r) _ (λ x. rw (map-kept (up n-on-q reads-map refl r st x)) (f .on-q));
+        free-p = where-up (p-free r) _ (λ x. rw (header-kept (up p-free ownsHeaders refl r st x)) (f .free-p));
+        free-q = where-up (q-free r) _ (λ x. rw (header-kept (up q-free ownsHeaders refl r st x)) (f .free-q));
+        headed-p = where-up (p-headed r) _ (λ x. rw (header-kept (up p-headed ownsHeaders refl r st x)) (f .headed-p));
+        headed-q = where-up (q-headed r) _ (λ x. rw (header-kept (up q-headed ownsHeaders refl r st x)) (f .headed-q));
+        names-n = f .names-n;
+        heads-p = where-up (h-heads-p r) _ (λ x. rw (header-kept (up h-heads-p ownsHeaders refl r st x)) (f .heads-p));
+        apart = f .apart;
+        chosen =
+            where-up (chosen-now r) _
+            (λ x. rw (header-kept (up chosen-now ownsHeaders refl r st x), wear-kept (up chosen-now holdsH refl r st x)) (f .chosen));
+        copied =
+            where-up (c-of-p r) _ (λ x. rw (content-kept (r .p) (p-owned r (up c-of-p ownsP refl r st x))) (f .copied));
+        pasted =
+            where-up (q-has-c r) _ (λ x. rw (content-kept (r .q) (q-owned r (up q-has-c ownsQ refl r st x))) (f .pasted));
+        seen = where-up (c-of-n r) _ (λ x. rw (seen-kept r′ (up c-of-n holdsN refl r st x)) (f .seen));
+        unset-n = f .unset-n;
+        unset-c = f .unset-c;
+        unset-p = f .unset-p;
+        unset-q = f .unset-q;
+        unset-h = f .unset-h;
+      }
+
+-- ---- what a step must show, and that it keeps the invariant
+
+-- Thread t with record r goes on with record r′ and an effect. A line's own part: what it has that guards what it changes, and what the
+-- table's rows say of it at its next line. Whatever else is to be known of each step becomes a field here.
+pub record Moves (s : Store) (t : ℕ) (r r′ : Thread) (e : Effect) : Type 0 where
+  pub guards : Guards s t e
+  pub stands : Stands r′
+  pub holds : Holds (apply s t r′ e) t r′
+  pub facts : Facts (apply s t r′ e) r′
+  pub agrees : Agrees (put (e .map) (s .map)) (put (e .header) (s .header)) (s .numbers) (s .blocks)
+  -- a header that pointed to its number, or was t's own astray, does so afterwards
+  pub mapped : (m k : ℕ) → put (e .header) (s .header) m ≡ naming k → (s .header m ≡ naming k → (s .map k ≡ naming m) ⊎ (leadsAstray r m ≡ true)) → (put (e .map) (s .map) k ≡ naming m) ⊎ (leadsAstray r′ m ≡ true)
+
+module _ (s : Store) (I : Inv s) (t : ℕ) (r′ : Thread) (e : Effect) (M : Moves s t (s .thread t) r′ e) where
+  mapped-kept : (m k : ℕ) → put (e .header) (s .header) m ≡ naming k → (put (e .map) (s .map) k ≡ naming m) ⊎ Astray (apply s t r′ e) m
+  mapped-kept m k x = go (either (eqb (s .header m) (naming k)))
+    where
+      -- t's own part
+      mine : (put (e .map) (s .map) k ≡ naming m) ⊎ (leadsAstray r′ m ≡ true) → (put (e .map) (s .map) k ≡ naming m) ⊎ Astray (apply s t r′ e) m
+      mine (inl y) = inl y
+      mine (inr y) = inr (record { who = t; leads = rw (same t) y })
+
+      another : (v : ℕ) → leadsAstray (s .thread v) m ≡ true → (eqb t v ≡ true) ⊎ (eqb t v ≡ false) → (put (e .map) (s .map) k ≡ naming m) ⊎ Astray (apply s t r′ e) m
+      another v a (inl y) = mine (M .mapped m k x (λ _. inr (rw (eqb-true t v y) a)))
+      another v a (inr y) = inr (record { who = v; leads = rw y a })
+
+      old : (s .map k ≡ naming m) ⊎ Astray s m → (put (e .map) (s .map) k ≡ naming m) ⊎ Astray (apply s t r′ e) m
+      old (inl y) = mine (M .mapped m k x (λ _. inl y))
+      old (inr a) = another (a .who) (a .leads) (either (eqb t (a .who)))
+
+      go : (eqb (s .header m) (naming k) ≡ true) ⊎ (eqb (s .header m) (naming k) ≡ false) → (put (e .map) (s .map) k ≡ naming m) ⊎ Astray (apply s t r′ e) m
+      go (inl y) = old (I .mapped m k (eqb-true (s .header m) (naming k) y))
+      go (inr y) = mine (M .mapped m k x (λ z. absurd (eqb-false (s .header m) (naming k) y z)))
+
+  pub moves-inv : t < s .threads → Inv (apply s t r′ e)
+  moves-inv below =
+      record {
+        limits = I .limits;
+        stands = upd-each (λ v r. Stands r) (s .thread) t r′ (M .stands) (λ v _. I .stands v);
+        past =
+            upd-each (λ v r. s .threads ≤ v → r ≡ idle) (s .thread) t r′ (λ above. absurd (omega arith)) (λ v _. I .past v);
+        holds =
+            upd-each (λ v r. Holds (apply s t r′ e) v r) (s .thread) t r′ (M .holds)
+            (λ v apart. holds-kept s I t e (M .guards) v apart r′);
+        facts =
+            upd-each (λ v r. Facts (apply s t r′ e) r) (s .thread) t r′ (M .facts)
+            (λ v apart. facts-kept s I t e (M .guards) v apart r′);
+        agrees = M .agrees;
+        mapped = mapped-kept;
+      }

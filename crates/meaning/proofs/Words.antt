@@ -1,0 +1,114 @@
+-- Laws of words that are 0 or a number plus one (specs/Holding), of entries of a table, and of tests.
+-- Assumes nothing.
+use mathlib.Core.Path.{_≡_, refl, sym, ap, _∙_}
+use mathlib.Core.Bool.{Bool, true, false, not, cond, _&&_, _||_}
+use mathlib.Core.Logic.{_⊎_, inl, inr}
+use Prim.Native.Nat.{ℕ, zero, suc, _+_, _-_, _<_, _≤_}
+use native.Mathlib.Omega.{arith}
+use native.Mathlib.Numerals.{add-one}
+use lib.Dec.{eqb, ltb, leb}
+use borrow.Author.Tests.{eqb-true, eqb-false, eq-eqb, ne-eqb}
+use Rattle.meaning.specs.Table.{upd}
+use Rattle.meaning.specs.Holding.{none, free, by, heldBy, naming, named}
+
+-- ---- tests
+
+pub same : (k : ℕ) → eqb k k ≡ true
+same k = eq-eqb k k refl
+
+-- a test goes one way or the other
+pub either : (b : Bool) → (b ≡ true) ⊎ (b ≡ false)
+either true = inl refl
+either false = inr refl
+
+pub clash : {A : Type 0} {b : Bool} → b ≡ true → b ≡ false → A
+clash x y = absurd (let z : _≡_ {A = ℕ} 0 1 = cc in omega arith)
+
+pub and-left : (a b : Bool) → (a && b) ≡ true → a ≡ true
+and-left true b e = refl
+and-left false b e = e
+
+pub and-right : (a b : Bool) → (a && b) ≡ true → b ≡ true
+and-right true b e = e
+and-right false b e = clash e refl
+
+pub or-either : (a b : Bool) → (a || b) ≡ true → (a ≡ true) ⊎ (b ≡ true)
+or-either true b e = inl refl
+or-either false b e = inr e
+
+-- ---- lock and owner words
+
+pub by-held : (t : ℕ) → heldBy t (by t) ≡ true
+by-held t = same (t + 1)
+
+pub by-other : (t v : ℕ) → (t ≡ v → ⊥) → heldBy v (by t) ≡ false
+by-other t v apart = ne-eqb (t + 1) (v + 1) (λ e. apart (omega arith))
+
+pub none-held : (v : ℕ) → heldBy v none ≡ false
+none-held v = ne-eqb 0 (v + 1) (λ e. omega arith)
+
+pub free-held : (v w : ℕ) → free w ≡ true → heldBy v w ≡ false
+free-held v w f = ne-eqb w (v + 1) (λ e. let z : w ≡ 0 = eqb-true w 0 f in omega arith)
+
+pub held-not-free : (v w : ℕ) → heldBy v w ≡ true → free w ≡ false
+held-not-free v w h = ne-eqb w 0 (λ e. let z : w ≡ v + 1 = eqb-true w (v + 1) h in omega arith)
+
+-- one word is held by one thread
+pub held-once : (t v w : ℕ) → heldBy t w ≡ true → heldBy v w ≡ true → t ≡ v
+held-once t v w h g =
+    let x : w ≡ t + 1 = eqb-true w (t + 1) h in
+    let y : w ≡ v + 1 = eqb-true w (v + 1) g in
+    omega arith
+
+-- what is not free is held by somebody, and what nobody holds is free
+pub held-by : (w : ℕ) → free w ≡ false → (v : ℕ) × (heldBy v w ≡ true)
+held-by w f =
+    let g : w ≡ 0 → ⊥ = eqb-false w 0 f in
+    (named w, eq-eqb w (w - 1 + 1) (omega arith))
+
+pub nobody-free : (w : ℕ) → ((v : ℕ) → heldBy v w ≡ false) → free w ≡ true
+nobody-free w nobody = go (either (free w))
+  where
+    go : (free w ≡ true) ⊎ (free w ≡ false) → free w ≡ true
+    go (inl f) = f
+    go (inr f) = let x = held-by w f in clash (x .1) (nobody (x .0))
+
+-- ---- words that name
+
+pub naming-once : (j k : ℕ) → naming j ≡ naming k → j ≡ k
+naming-once j k e = omega arith
+
+pub naming-not-none : {A : Type 0} (k w : ℕ) → w ≡ naming k → w ≡ none → A
+naming-not-none k w e f = absurd (omega arith)
+
+pub naming-not-free : (k w : ℕ) → w ≡ naming k → free w ≡ false
+naming-not-free k w e = ne-eqb w 0 (λ z. omega arith)
+
+pub free-none : (w : ℕ) → free w ≡ true → w ≡ none
+free-none w f = eqb-true w 0 f
+
+pub none-free : (w : ℕ) → w ≡ none → free w ≡ true
+none-free w e = eq-eqb w 0 e
+
+pub naming-named : (w : ℕ) → free w ≡ false → w ≡ naming (named w)
+naming-named w f = let g : w ≡ 0 → ⊥ = eqb-false w 0 f in omega arith
+
+-- what a word names is in range if the word is
+pub named-below : (w k : ℕ) → free w ≡ false → w ≤ k → named w < k
+named-below w k f b = let g : w ≡ 0 → ⊥ = eqb-false w 0 f in omega arith
+
+-- ---- entries of a table
+
+pub upd-same : {A : Type 0} (f : ℕ → A) (i : ℕ) (v : A) → upd f i v i ≡ v
+upd-same f i v = rw (same i)
+
+pub upd-other : {A : Type 0} (f : ℕ → A) (i j : ℕ) (v : A) → (i ≡ j → ⊥) → upd f i v j ≡ f j
+upd-other f i j v apart = rw (ne-eqb i j apart)
+
+-- what holds of an entry before and of the value put holds of it after
+pub upd-each : {A : Type 0} (P : ℕ → A → Type 0) (f : ℕ → A) (i : ℕ) (v : A) → P i v → ((j : ℕ) → (i ≡ j → ⊥) → P j (f j)) → (j : ℕ) → P j (upd f i v j)
+upd-each P f i v new old j = go (either (eqb i j))
+  where
+    go : (eqb i j ≡ true) ⊎ (eqb i j ≡ false) → P j (upd f i v j)
+    go (inl e) = rw (sym (eqb-true i j e), upd-same f i v) new
+    go (inr e) = rw e (old j (eqb-false i j e))

@@ -156,10 +156,10 @@ abbrev pub holdsLock : Thread → ℕ → Bool
 holdsLock r k = holdsN r && eqb (r .n) k
 
 abbrev pub ownsBlock : Thread → ℕ → Bool
-ownsBlock r m = ownsP r && eqb (r .p) m || ownsQ r && eqb (r .q) m
+ownsBlock r m = ownsQ r && eqb (r .q) m || ownsP r && eqb (r .p) m
 
 abbrev pub leadsAstray : Thread → ℕ → Bool
-leadsAstray r m = p-astray r && eqb (r .p) m || q-astray r && eqb (r .q) m
+leadsAstray r m = q-astray r && eqb (r .q) m || p-astray r && eqb (r .p) m
 
 -- The lock and owner words are the flags, for each thread v with its record r: so no two threads hold one lock, none waits for itself,
 -- and who holds what can be read off both sides.

@@ -98,10 +98,10 @@ abbrev reads-map : Thread → Bool
 reads-map r = holdsN r || ownsHeaders r
 
 pub p-owned : (r : Thread) → ownsP r ≡ true → ownsBlock r (r .p) ≡ true
-p-owned r x = rw (x, same (r .p))
+p-owned r x = rw (x, same (r .p)) (or-true (ownsQ r && eqb (r .q) (r .p)))
 
 pub q-owned : (r : Thread) → ownsQ r ≡ true → ownsBlock r (r .q) ≡ true
-q-owned r x = rw (x, same (r .q)) (or-true (ownsP r && eqb (r .p) (r .q)))
+q-owned r x = rw (x, same (r .q))
 
 -- ---- a step of t, seen by another thread v
 

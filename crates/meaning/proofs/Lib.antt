@@ -2,3 +2,10 @@
 pub mod Words
 pub mod Invariant
 pub mod Keeping
+pub mod Blocks
+pub mod Lines
+pub mod Write
+pub mod Read
+pub mod Unmap
+pub mod Level
+pub mod Demand1

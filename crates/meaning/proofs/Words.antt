@@ -93,6 +93,9 @@ none-free w e = eq-eqb w 0 e
 pub naming-named : (w : ℕ) → free w ≡ false → w ≡ naming (named w)
 naming-named w f = let g : w ≡ 0 → ⊥ = eqb-false w 0 f in omega arith
 
+pub named-naming : (k : ℕ) → named (naming k) ≡ k
+named-naming k = omega arith
+
 -- what a word names is in range if the word is
 pub named-below : (w k : ℕ) → free w ≡ false → w ≤ k → named w < k
 named-below w k f b = let g : w ≡ 0 → ⊥ = eqb-false w 0 f in omega arith

@@ -1,18 +1,17 @@
 -- What the searches of specs/Choosing find, and that there is a free block to be found where W5 and L3 ask: while no block is astray,
 -- no number has two blocks, and there are more blocks than numbers.
 -- Assumes nothing.
-use mathlib.Core.Path.{_≡_, refl, sym, ap, _∙_, subst}
-use mathlib.Core.Bool.{Bool, true, false, not, cond, _&&_, _||_}
+use mathlib.Core.Path.{_≡_, refl, sym, _∙_}
+use mathlib.Core.Bool.{Bool, true, false, cond}
 use mathlib.Core.Logic.{_⊎_, inl, inr}
-use Prim.Native.Nat.{ℕ, zero, suc, _+_, _-_, _<_, _≤_}
+use Prim.Native.Nat.{ℕ, zero, suc, _<_, _≤_}
 use native.Mathlib.Omega.{arith}
-use lib.Dec.{eqb, ltb, leb}
-use borrow.Author.Tests.{eqb-true, eqb-false, eq-eqb, ne-eqb, ltb-true, lt-ltb, le-ltb}
-use Rattle.meaning.specs.declared.Found.{Found}
+use lib.Dec.{eqb}
+use borrow.Author.Tests.{eqb-true, eqb-false, lt-ltb, le-ltb}
 use Rattle.meaning.specs.declared.Found.the-variants.{Nobody, At}
-use Rattle.meaning.specs.Holding.{none, free, naming, named}
-use Rattle.meaning.specs.Choosing.{lowestNext, lowestFree, challenge, best}
-use Rattle.meaning.proofs.Words.{either, clash, free-none, naming-named, named-below}
+use Rattle.meaning.specs.Holding.{free, naming, named}
+use Rattle.meaning.specs.Choosing.{lowestFree, best}
+use Rattle.meaning.proofs.Words.{either, naming-named, named-below}
 
 -- ---- pigeons
 

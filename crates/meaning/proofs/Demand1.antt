@@ -1,27 +1,27 @@
 -- Demand 1, over stores: a store grown from fresh satisfies the invariant, no step of such a store faults, and where some thread has
 -- open work, some thread can step.
 -- Assumes nothing.
-use mathlib.Core.Path.{_≡_, refl, sym, ap, _∙_, subst}
-use mathlib.Core.Bool.{Bool, true, false, not, cond, _&&_, _||_}
+use mathlib.Core.Path.{_≡_, refl, sym, _∙_, subst}
+use mathlib.Core.Bool.{Bool, true, false, _||_}
 use mathlib.Core.Logic.{_⊎_, inl, inr}
-use Prim.Native.Nat.{ℕ, zero, suc, _+_, _-_, _<_, _≤_}
+use Prim.Native.Nat.{ℕ, _<_, _≤_}
 use native.Mathlib.Omega.{arith}
 use lib.Dec.{eqb, ltb, leb}
-use borrow.Author.Tests.{eqb-true, eqb-false, ltb-true, ltb-false, leb-true, lt-ltb}
+use borrow.Author.Tests.{eqb-true, ltb-true, ltb-false, leb-true, lt-ltb}
 use Rattle.meaning.specs.declared.Thread.{Thread}
 use Rattle.meaning.specs.declared.Verdict.{Verdict}
 use Rattle.meaning.specs.declared.Verdict.the-variants.{Blocked, Fault, Go, Done}
 use Rattle.meaning.specs.Numbers.{FINISHED}
 use Rattle.meaning.specs.Limits.{within, inLimits}
 use Rattle.meaning.specs.Store.{Store, idle, fresh}
-use Rattle.meaning.specs.Holding.{free, heldBy}
+use Rattle.meaning.specs.Holding.{free}
 use Rattle.meaning.specs.Programs.{WRITE, LEVEL, lastLine}
-use Rattle.meaning.specs.Step.{nothing, verdict, apply}
+use Rattle.meaning.specs.Step.{nothing, verdict}
 use Rattle.meaning.specs.Call.{Entry, begin, step, callStore, reply, told, isIdle, begun, storedN}
-use Rattle.meaning.proofs.Words.{either, clash, and-left, and-right, or-either, none-held, held-by, naming-not-none}
-use Rattle.meaning.proofs.Invariant.{holdsH, holdsN, Holds, Facts, onLine, Stands, Inv}
-use Rattle.meaning.proofs.Keeping.{everywhere, Moves, moves-inv}
-use Rattle.meaning.proofs.Lines.{Waits, for-H, for-N, Fine, Line, Here, From, _▸_, from-at, either-way, keeping, limits-sizes, numbers-blocks, facts-idle}
+use Rattle.meaning.proofs.Words.{clash, and-left, and-right, none-held, held-by, naming-not-none}
+use Rattle.meaning.proofs.Invariant.{holdsH, holdsN, Holds, onLine, Stands, Inv}
+use Rattle.meaning.proofs.Keeping.{Moves, moves-inv}
+use Rattle.meaning.proofs.Lines.{Waits, for-H, for-N, Fine, Line, From, _▸_, from-at, either-way, keeping, limits-sizes, numbers-blocks, facts-idle}
 use Rattle.meaning.proofs.Write.{writes}
 use Rattle.meaning.proofs.Read.{reads}
 use Rattle.meaning.proofs.Unmap.{unmaps}
@@ -129,58 +129,66 @@ module _ (s : Store) (I : Inv s) where
 abbrev pub CanStep : Store → ℕ → Type 0
 CanStep s u = leb (callStore s (step u) .number) FINISHED ≡ true
 
+-- some open thread can step
+abbrev pub SomeSteps : Store → Type 0
+SomeSteps s = (u : ℕ) × (u < s .threads) × (isIdle (s .thread u) ≡ false) × CanStep s u
+
 module _ (s : Store) (I : Inv s) where
-  -- an open thread can step, or it waits
   told-steps : (t : ℕ) (v : Verdict) → Fine s t (s .thread t) v → (leb (reply (λ s′. s′) s (told s t v) .number) FINISHED ≡ true) ⊎ Waits s (s .thread t)
   told-steps t Blocked f = inr f
   told-steps t Fault f = absurd f
   told-steps t (Go r′ e) f = inl refl
   told-steps t (Done answer e) f = inl refl
 
+  -- an open thread can step, or it waits
   steps-or-waits : (t : ℕ) → t < s .threads → isIdle (s .thread t) ≡ false → CanStep s t ⊎ Waits s (s .thread t)
-  steps-or-waits t below busy =
-      rw (lt-ltb t (s .threads) below, busy) (told-steps t (verdict s t) (fine s I t busy))
+  steps-or-waits t below busy = rw (lt-ltb t (s .threads) below, busy) (told-steps t (verdict s t) (fine s I t busy))
+
+  -- so somebody can step, if that is so where it waits
+  unless-waits : (t : ℕ) → t < s .threads → isIdle (s .thread t) ≡ false → (Waits s (s .thread t) → SomeSteps s) → SomeSteps s
+  unless-waits t below busy waits = go (steps-or-waits t below busy)
+    where
+      go : CanStep s t ⊎ Waits s (s .thread t) → SomeSteps s
+      go (inl c) = (t, below, busy, c)
+      go (inr w) = waits w
 
   -- whoever has a flag up is open, and below T
-  open-below : (flag : Thread → Bool) → flag idle ≡ false → (v : ℕ) → flag (s .thread v) ≡ true → (v < s .threads) × (isIdle (s .thread v) ≡ false)
-  open-below flag down v x = (
-    either-way (ltb v (s .threads)) (λ b. ltb-true v (s .threads) b) (λ b. rests (I .past v (ltb-false v (s .threads) b))),
-    either-way (isIdle (s .thread v)) (λ y. rests (idle-is (s .thread v) (I .stands v) y)) (λ y. y),
-  )
+  holder-steps : (flag : Thread → Bool) → flag idle ≡ false → (v : ℕ) → flag (s .thread v) ≡ true → (Waits s (s .thread v) → SomeSteps s) → SomeSteps s
+  holder-steps flag down v x =
+      unless-waits v
+      (either-way (ltb v (s .threads)) (λ b. ltb-true v (s .threads) b) (λ b. rests (I .past v (ltb-false v (s .threads) b))))
+      (either-way (isIdle (s .thread v)) (λ y. rests (idle-is (s .thread v) (I .stands v) y)) (λ y. y))
     where
       rests : {A : Type 0} → s .thread v ≡ idle → A
       rests e = clash (rw e at x) down
 
   -- who holds a number's lock waits for nothing
-  n-holder-steps : (k : ℕ) → free (s .locks k) ≡ false → (u : ℕ) × (u < s .threads) × (isIdle (s .thread u) ≡ false) × CanStep s u
+  n-holder-steps : (k : ℕ) → free (s .locks k) ≡ false → SomeSteps s
   n-holder-steps k f =
       let holder = held-by (s .locks k) f in
-      let holds = and-left (holdsN (s .thread (holder .0))) _ (sym (I .holds (holder .0) .locks k) ∙ holder .1) in
-      let o = open-below holdsN refl (holder .0) holds in
-      go (holder .0) holds o (steps-or-waits (holder .0) (o .0) (o .1))
+      go (holder .0) (and-left (holdsN (s .thread (holder .0))) _ (sym (I .holds (holder .0) .locks k) ∙ holder .1))
     where
-      go : (u : ℕ) → holdsN (s .thread u) ≡ true → (u < s .threads) × (isIdle (s .thread u) ≡ false) → CanStep s u ⊎ Waits s (s .thread u) → (u : ℕ) × (u < s .threads) × (isIdle (s .thread u) ≡ false) × CanStep s u
-      go u x o (inl c) = (u, o .0, o .1, c)
-      go u x o (inr (for-H _ y _)) = clash x y
-      go u x o (inr (for-N y _)) = clash x y
+      never : (v : ℕ) → holdsN (s .thread v) ≡ true → Waits s (s .thread v) → SomeSteps s
+      never v x (for-H _ y _) = clash x y
+      never v x (for-N y _) = clash x y
+
+      go : (v : ℕ) → holdsN (s .thread v) ≡ true → SomeSteps s
+      go v x = holder-steps holdsN refl v x (never v x)
 
   -- who holds H waits for nothing, or for a number's lock
-  H-holder-steps : free (s .lock) ≡ false → (u : ℕ) × (u < s .threads) × (isIdle (s .thread u) ≡ false) × CanStep s u
-  H-holder-steps f =
-      let holder = held-by (s .lock) f in
-      let holds = sym (I .holds (holder .0) .lock) ∙ holder .1 in
-      let o = open-below holdsH refl (holder .0) holds in
-      go (holder .0) holds o (steps-or-waits (holder .0) (o .0) (o .1))
+  H-holder-steps : free (s .lock) ≡ false → SomeSteps s
+  H-holder-steps f = let holder = held-by (s .lock) f in go (holder .0) (sym (I .holds (holder .0) .lock) ∙ holder .1)
     where
-      go : (u : ℕ) → holdsH (s .thread u) ≡ true → (u < s .threads) × (isIdle (s .thread u) ≡ false) → CanStep s u ⊎ Waits s (s .thread u) → (u : ℕ) × (u < s .threads) × (isIdle (s .thread u) ≡ false) × CanStep s u
-      go u x o (inl c) = (u, o .0, o .1, c)
-      go u x o (inr (for-H y _ _)) = clash x y
-      go u x o (inr (for-N _ y)) = n-holder-steps (s .thread u .n) y
+      for-n : (v : ℕ) → holdsH (s .thread v) ≡ true → Waits s (s .thread v) → SomeSteps s
+      for-n v x (for-H y _ _) = clash x y
+      for-n v x (for-N _ y) = n-holder-steps (s .thread v .n) y
+
+      go : (v : ℕ) → holdsH (s .thread v) ≡ true → SomeSteps s
+      go v x = holder-steps holdsH refl v x (for-n v x)
 
   pub progress : (t : ℕ) → t < s .threads → isIdle (s .thread t) ≡ false → (u : ℕ) × (u < s .threads) × (isIdle (s .thread u) ≡ false) × CanStep s u
-  progress t below busy = go (steps-or-waits t below busy)
+  progress t below busy = unless-waits t below busy held
     where
-      go : CanStep s t ⊎ Waits s (s .thread t) → (u : ℕ) × (u < s .threads) × (isIdle (s .thread u) ≡ false) × CanStep s u
-      go (inl c) = (t, below, busy, c)
-      go (inr (for-H _ _ f)) = H-holder-steps f
-      go (inr (for-N _ f)) = n-holder-steps (s .thread t .n) f
+      held : Waits s (s .thread t) → SomeSteps s
+      held (for-H _ _ f) = H-holder-steps f
+      held (for-N _ f) = n-holder-steps (s .thread t .n) f

@@ -2,28 +2,27 @@
 -- what another thread knows of a word, that thread has what guards it (the table, tested at each line by computation). So one law
 -- a kind of fact is enough, and no two lines or acts are compared.
 -- Assumes nothing.
-use mathlib.Core.Path.{_≡_, refl, sym, ap, _∙_, subst, fun-ext}
+use mathlib.Core.Path.{_≡_, refl, sym, _∙_, subst, fun-ext}
 use mathlib.Core.Bool.{Bool, true, false, not, cond, _&&_, _||_, or-true}
 use mathlib.Core.Logic.{_⊎_, inl, inr}
 use Prim.Native.Nat.{ℕ, zero, suc, _+_, _<_, _≤_}
 use native.Mathlib.Omega.{arith}
-use native.Mathlib.Nat.{le-of-suc-le-suc}
-use lib.Dec.{eqb, ltb, leb}
-use borrow.Author.Tests.{eqb-true, eqb-false, eq-eqb, ne-eqb, leb-true}
+use lib.Dec.{eqb, leb}
+use borrow.Author.Tests.{eqb-true, eqb-false, leb-true}
 use Rattle.meaning.specs.declared.Thread.{Thread}
 use Rattle.meaning.specs.declared.Word.{Word}
 use Rattle.meaning.specs.declared.Word.the-variants.{Stay, Become}
 use Rattle.meaning.specs.declared.Entry.{Entry}
 use Rattle.meaning.specs.declared.Entry.the-variants.{Keep, Put}
 use Rattle.meaning.specs.declared.Effect.{Effect}
-use Rattle.meaning.specs.Table.{upd, every}
+use Rattle.meaning.specs.Table.{every}
 use Rattle.meaning.specs.Limits.{within}
 use Rattle.meaning.specs.Store.{Store, idle}
 use Rattle.meaning.specs.Holding.{none, free, by, heldBy, naming, named}
 use Rattle.meaning.specs.Programs.{WRITE, LEVEL, lastLine}
 use Rattle.meaning.specs.Step.{become, put, apply}
-use Rattle.meaning.proofs.Words.{same, either, clash, and-left, and-right, or-either, by-held, by-other, none-held, free-held, held-once, naming-named, upd-same, upd-other, upd-each}
-use Rattle.meaning.proofs.Invariant.{holdsH, holdsN, ownsHeaders, ownsP, ownsQ, n-unmapped, n-on-p, n-on-q, p-free, q-free, p-headed, q-headed, h-heads-p, p-astray, q-astray, chosen-now, c-of-p, q-has-c, c-of-n, If, holdsLock, ownsBlock, leadsAstray, Holds, kept, Chosen, Facts, onLine, Stands, Changes, Puts, Passes, GuardsMap, GuardsHeader, GuardsContent, GuardsWear, Guards, Agrees, Astray, Inv}
+use Rattle.meaning.proofs.Words.{same, either, and-left, and-right, or-either, by-other, none-held, free-held, held-once, naming-named, upd-other, upd-each}
+use Rattle.meaning.proofs.Invariant.{holdsH, holdsN, ownsHeaders, ownsP, ownsQ, n-unmapped, n-on-p, n-on-q, p-free, q-free, p-headed, q-headed, h-heads-p, chosen-now, c-of-p, q-has-c, c-of-n, If, ownsBlock, leadsAstray, Holds, kept, Facts, Stands, Changes, Puts, Passes, GuardsMap, GuardsHeader, GuardsContent, GuardsWear, Guards, Agrees, Astray, Inv}
 
 -- ---- a rule of the table, tested at every line
 

@@ -1,22 +1,19 @@
 -- The lines of level.
 -- Assumes nothing.
 use mathlib.Core.Path.{_≡_, refl, sym, ap, _∙_, subst}
-use mathlib.Core.Bool.{Bool, true, false, _||_, or-false}
-use mathlib.Core.Logic.{_⊎_, inl, inr}
-use Prim.Native.Nat.{ℕ, _<_, _≤_}
+use mathlib.Core.Bool.{true, false, _||_, or-false}
+use Prim.Native.Nat.{ℕ, _<_}
 use native.Mathlib.Omega.{arith}
-use lib.Dec.{eqb, ltb}
-use borrow.Author.Tests.{eqb-true, eq-eqb, ne-eqb, lt-ltb}
-use Rattle.meaning.specs.Table.{upd}
+use lib.Dec.{eqb}
+use borrow.Author.Tests.{eqb-true, eq-eqb, ne-eqb}
 use Rattle.meaning.specs.Store.{Store}
-use Rattle.meaning.specs.Holding.{none, free, heldBy, naming, named}
-use Rattle.meaning.specs.Choosing.{lowestFree, toBlock}
+use Rattle.meaning.specs.Holding.{none, free, naming, named}
+use Rattle.meaning.specs.Choosing.{toBlock}
 use Rattle.meaning.specs.declared.Found.the-variants.{At}
 use Rattle.meaning.specs.Programs.{actAt}
 use Rattle.meaning.specs.Step.{perform}
-use Rattle.meaning.proofs.Words.{same, clash, free-none, naming-named, named-below, naming-not-free, naming-not-none, naming-once, upd-same, upd-other}
-use Rattle.meaning.proofs.Invariant.{Agrees}
-use Rattle.meaning.proofs.Lines.{for-H, for-N, Fine, at, Line, From, _▸_, n-held, p-held, q-held, second-taken, second-given, settled-owner, to-found, from-below, either-way, keeping, agrees-header, agrees-map, mapped-header, mapped-map, owner-free, mapped-block-free, free-block-free, numbers-blocks, lowest-free, content-guarded, facts-idle}
+use Rattle.meaning.proofs.Words.{same, naming-named, named-below, naming-not-free, naming-once, upd-same, upd-other}
+use Rattle.meaning.proofs.Lines.{for-H, for-N, Fine, at, Line, From, _▸_, n-held, p-held, q-held, either-way, second-taken, second-given, mapped-headed, mapped-freed, mapped-map, agrees-map, headed-apart, owner-free, mapped-block-free, free-block-free, headed-agrees, freed-agrees, settled-owner, numbers-blocks, to-found, from-below, content-guarded, facts-idle, keeping}
 
 module _ (s : Store) (t : ℕ) where
   l1 : Line s t 4 1
@@ -67,17 +64,16 @@ module _ (s : Store) (t : ℕ) where
 
   l9 : Line s t 4 9
   l9 n c p q h H =
-      let apart : p ≡ q → ⊥ = λ e. naming-not-none n (s .header p) (H .facts .headed-p) (subst (λ (m : ℕ). s .header m ≡ none) (sym e) (H .facts .free-q)) in
+      let apart = headed-apart s n p q (H .facts .headed-p) (H .facts .free-q) in
       let f = free-block-free s (H .inv) t q (H .facts .free-q) (H .holds .owner) (H .holds .own q ∙ ne-eqb p q apart) in
       rw f (search (keeping, second-taken, H .inv .agrees, H .holds .locks, H .holds .own))
 
   l10 : Line s t 4 10
   l10 n c p q h H =
       let own = q-held s t (at 4 10 n c p q h) H refl in
-      let apart : p ≡ q → ⊥ = λ e. naming-not-none n (s .header p) (H .facts .headed-p) (subst (λ (m : ℕ). s .header m ≡ none) (sym e) (H .facts .free-q)) in
-      let alone : (k : ℕ) → s .map k ≡ naming q → ⊥ = λ k on. naming-not-none k (s .header q) (H .inv .agrees .headed k q on) (H .facts .free-q) in
-      let agrees = agrees-header (s .map) (s .header) (s .numbers) (s .blocks) q h (H .inv .agrees) alone (H .facts .h-below) in
-      let mapped = mapped-header (s .map) (s .header) q h (λ m. false) (λ m. eqb q m || false) (λ k _. rw (same q)) (λ m _ x. clash x refl) in
+      let apart = headed-apart s n p q (H .facts .headed-p) (H .facts .free-q) in
+      let agrees = headed-agrees s (H .inv) q h (H .facts .free-q) (H .facts .h-below) in
+      let mapped = mapped-headed (s .map) (s .header) q h (λ m. eqb q m || false) (rw (same q)) in
       let headed-p = upd-other (s .header) q p h (λ e. apart (sym e)) ∙ H .facts .headed-p in
       let headed-q = upd-same (s .header) q h ∙ H .facts .names-n in
       rw (H .holds .owner, own) (search (keeping, mapped, H .holds .locks, H .holds .own))
@@ -103,10 +99,9 @@ module _ (s : Store) (t : ℕ) where
   l13 : Line s t 4 13
   l13 n c p q h H =
       let own = p-held s t (at 4 13 n c p q h) H refl in
-      let alone : (k : ℕ) → s .map k ≡ naming p → ⊥ = λ k on. H .facts .apart (naming-once p q (sym (subst (λ (k : ℕ). s .map k ≡ naming p) (naming-once k n (sym (H .inv .agrees .headed k p on) ∙ H .facts .headed-p)) on) ∙ H .facts .on-q)) in
-      let agrees = agrees-header (s .map) (s .header) (s .numbers) (s .blocks) p none (H .inv .agrees) alone (omega arith) in
-      let mapped = mapped-header (s .map) (s .header) p none (λ m. eqb p m) (λ m. false) (λ k x. naming-not-none k none x refl) (λ m apart x. absurd (apart (eqb-true p m x))) in
-      let head = upd-same (s .header) p none in
+      let agrees = freed-agrees s (H .inv) n p (H .facts .headed-p) (λ on. H .facts .apart (naming-once p q (sym on ∙ H .facts .on-q))) in
+      let mapped = mapped-freed (s .map) (s .header) p in
+      let freed = upd-same (s .header) p none in
       rw (H .holds .owner, own) (search (keeping, mapped, H .holds .locks, H .holds .own))
 
   l14 : Line s t 4 14

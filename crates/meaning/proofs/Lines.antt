@@ -1,27 +1,26 @@
 -- What a line must show, `Fine`, and the laws that the proofs of the lines share: what is free where a line owns it, what a line that
 -- takes, owns, releases or lets go holds next, and what becomes of map and headers where a line writes there.
 -- Assumes nothing.
-use mathlib.Core.Path.{_≡_, refl, sym, ap, _∙_, subst}
-use mathlib.Core.Bool.{Bool, true, false, not, cond, _&&_, _||_, and-true, or-true}
+use mathlib.Core.Path.{_≡_, refl, sym, _∙_, subst}
+use mathlib.Core.Bool.{Bool, true, false, not, _&&_, _||_, and-true, or-true}
 use mathlib.Core.Logic.{_⊎_, inl, inr}
-use Prim.Native.Nat.{ℕ, zero, suc, _+_, _-_, _<_, _≤_}
+use Prim.Native.Nat.{ℕ, zero, suc, _+_, _<_, _≤_}
 use native.Mathlib.Omega.{arith}
 use lib.Dec.{eqb, ltb, leb}
-use borrow.Author.Tests.{eqb-true, eqb-false, eq-eqb, ne-eqb, leb-true}
+use borrow.Author.Tests.{eqb-true, eqb-false, ne-eqb, leb-true}
 use Rattle.meaning.specs.declared.Thread.{Thread}
-use Rattle.meaning.specs.declared.Effect.{Effect}
 use Rattle.meaning.specs.declared.Verdict.{Verdict}
 use Rattle.meaning.specs.declared.Verdict.the-variants.{Blocked, Fault, Go, Done}
 use Rattle.meaning.specs.Table.{upd}
 use Rattle.meaning.specs.Limits.{least, mostThreads, mostNumbers, mostBlocks, mostDistance, within, inLimits}
 use Rattle.meaning.specs.Store.{Store, idle}
-use Rattle.meaning.specs.Holding.{none, free, by, heldBy, naming, named}
+use Rattle.meaning.specs.Holding.{none, free, by, heldBy, naming}
 use Rattle.meaning.specs.Programs.{actAt}
 use Rattle.meaning.specs.declared.Found.the-variants.{Nobody, At}
 use Rattle.meaning.specs.Choosing.{lowestFree, toBlock, leastWorn, fromBlock}
 use Rattle.meaning.specs.Step.{perform}
-use Rattle.meaning.proofs.Words.{same, either, clash, and-left, and-right, or-either, by-held, none-held, free-held, held-once, held-not-free, nobody-free, free-none, naming-once, naming-not-none, naming-not-free, named-naming, upd-same, upd-other, upd-each}
-use Rattle.meaning.proofs.Invariant.{holdsH, holdsN, ownsHeaders, ownsP, ownsQ, n-on-p, n-on-q, p-free, q-free, p-headed, q-headed, p-astray, q-astray, If, ownsBlock, leadsAstray, kept, Holds, Facts, Passes, GuardsContent, Agrees, Astray, Inv}
+use Rattle.meaning.proofs.Words.{same, either, clash, and-left, and-right, or-either, by-held, none-held, free-held, held-once, nobody-free, free-none, naming-once, naming-not-none, naming-not-free, named-naming, upd-each}
+use Rattle.meaning.proofs.Invariant.{holdsH, holdsN, ownsHeaders, ownsP, ownsQ, n-on-p, n-on-q, p-free, q-free, p-headed, q-headed, p-astray, q-astray, If, leadsAstray, kept, Holds, Facts, Passes, GuardsContent, Agrees, Astray, Inv}
 use Rattle.meaning.proofs.Keeping.{p-owned, q-owned, up, Moves}
 use Rattle.meaning.proofs.Blocks.{crowded, Finds, finds, lacks, lowest-finds, best-finds}
 
@@ -118,7 +117,7 @@ second-given t f i j others k =
 -- ---- what a line does to the map and the headers
 
 -- a header is written where no number is mapped
-pub agrees-header : (map header : ℕ → ℕ) (numbers blocks i w : ℕ) → Agrees map header numbers blocks → ((k : ℕ) → map k ≡ naming i → ⊥) → w ≤ numbers → Agrees map (upd header i w) numbers blocks
+agrees-header : (map header : ℕ → ℕ) (numbers blocks i w : ℕ) → Agrees map header numbers blocks → ((k : ℕ) → map k ≡ naming i → ⊥) → w ≤ numbers → Agrees map (upd header i w) numbers blocks
 agrees-header map header numbers blocks i w A alone below =
     record {
       headed = λ k. upd-each (λ m x. map k ≡ naming m → x ≡ naming k) header i w (λ on. absurd (alone k on)) (λ m _. A .headed k m);
@@ -136,7 +135,7 @@ agrees-map map header numbers blocks i w A names below =
     }
 
 -- which blocks a thread leads astray, before and after: the one whose header it writes, unless it frees it, and no longer otherwise
-pub mapped-header : (map header : ℕ → ℕ) (i w : ℕ) (before after : ℕ → Bool) → ((k : ℕ) → w ≡ naming k → after i ≡ true) → ((m : ℕ) → (i ≡ m → ⊥) → before m ≡ true → after m ≡ true) → (m k : ℕ) → upd header i w m ≡ naming k → (header m ≡ naming k → (map k ≡ naming m) ⊎ (before m ≡ true)) → (map k ≡ naming m) ⊎ (after m ≡ true)
+mapped-header : (map header : ℕ → ℕ) (i w : ℕ) (before after : ℕ → Bool) → ((k : ℕ) → w ≡ naming k → after i ≡ true) → ((m : ℕ) → (i ≡ m → ⊥) → before m ≡ true → after m ≡ true) → (m k : ℕ) → upd header i w m ≡ naming k → (header m ≡ naming k → (map k ≡ naming m) ⊎ (before m ≡ true)) → (map k ≡ naming m) ⊎ (after m ≡ true)
 mapped-header map header i w before after new rest m k =
     upd-each (λ m x. x ≡ naming k → (header m ≡ naming k → (map k ≡ naming m) ⊎ (before m ≡ true)) → (map k ≡ naming m) ⊎ (after m ≡ true)) header i w
     (λ x _. inr (new k x)) (λ m apart x old. go m apart (old x)) m
@@ -144,6 +143,14 @@ mapped-header map header i w before after new rest m k =
     go : (m : ℕ) → (i ≡ m → ⊥) → (map k ≡ naming m) ⊎ (before m ≡ true) → (map k ≡ naming m) ⊎ (after m ≡ true)
     go m apart (inl y) = inl y
     go m apart (inr y) = inr (rest m apart y)
+
+-- at W7 and L10 that block, through p or q as `after` says; at U7 and L13 none
+pub mapped-headed : (map header : ℕ → ℕ) (i w : ℕ) (after : ℕ → Bool) → after i ≡ true → (m k : ℕ) → upd header i w m ≡ naming k → (header m ≡ naming k → (map k ≡ naming m) ⊎ (false ≡ true)) → (map k ≡ naming m) ⊎ (after m ≡ true)
+mapped-headed map header i w after new = mapped-header map header i w (λ m. false) after (λ k _. new) (λ m _ x. clash x refl)
+
+pub mapped-freed : (map header : ℕ → ℕ) (i : ℕ) → (m k : ℕ) → upd header i none m ≡ naming k → (header m ≡ naming k → (map k ≡ naming m) ⊎ (eqb i m ≡ true)) → (map k ≡ naming m) ⊎ (false ≡ true)
+mapped-freed map header i =
+    mapped-header map header i none (λ m. eqb i m) (λ m. false) (λ k x. naming-not-none k none x refl) (λ m apart x. absurd (apart (eqb-true i m x)))
 
 -- the one that its number leaves, and no longer the one that it is mapped to
 pub mapped-map : (map header : ℕ → ℕ) (i w : ℕ) (before after : ℕ → Bool) → ((m : ℕ) → map i ≡ naming m → after m ≡ true) → ((m : ℕ) → before m ≡ true → header m ≡ naming i) → ((m : ℕ) → before m ≡ true → w ≡ naming m) → (m k : ℕ) → header m ≡ naming k → (header m ≡ naming k → (map k ≡ naming m) ⊎ (before m ≡ true)) → (upd map i w k ≡ naming m) ⊎ (after m ≡ true)
@@ -158,6 +165,11 @@ mapped-map map header i w before after leaves was comes m k x old =
     other : (k : ℕ) → (i ≡ k → ⊥) → header m ≡ naming k → (map k ≡ naming m) ⊎ (before m ≡ true) → (map k ≡ naming m) ⊎ (after m ≡ true)
     other k apart x (inl y) = inl y
     other k apart x (inr y) = absurd (apart (naming-once i k (sym (was m y) ∙ x)))
+
+-- a headed block is no free one
+pub headed-apart : (s : Store) (n p q : ℕ) → s .header p ≡ naming n → s .header q ≡ none → p ≡ q → ⊥
+headed-apart s n p q headed empty e =
+    naming-not-none n (s .header p) headed (subst (λ (m : ℕ). s .header m ≡ none) (sym e) empty)
 
 -- ---- what is free
 
@@ -252,6 +264,19 @@ module _ (s : Store) (I : Inv s) where
       alone v (as-headed k h l) = naming-not-none k (s .header m) h empty
 
   -- ---- headers
+
+  -- W7 and L10: no number is mapped to a block whose header is free
+  pub headed-agrees : (m w : ℕ) → s .header m ≡ none → w ≤ s .numbers → Agrees (s .map) (upd (s .header) m w) (s .numbers) (s .blocks)
+  headed-agrees m w empty below =
+      agrees-header (s .map) (s .header) (s .numbers) (s .blocks) m w (I .agrees)
+      (λ k on. naming-not-none k (s .header m) (I .agrees .headed k m on) empty) below
+
+  -- U7 and L13: nor to one whose header names a number that is mapped elsewhere or nowhere
+  pub freed-agrees : (n m : ℕ) → s .header m ≡ naming n → (s .map n ≡ naming m → ⊥) → Agrees (s .map) (upd (s .header) m none) (s .numbers) (s .blocks)
+  freed-agrees n m headed off =
+      agrees-header (s .map) (s .header) (s .numbers) (s .blocks) m none (I .agrees)
+      (λ k on. off (subst (λ (k : ℕ). s .map k ≡ naming m) (naming-once k n (sym (I .agrees .headed k m on) ∙ headed)) on))
+      (omega arith)
 
   -- only the headers' owner leads a block astray
   astray-owner : (v m : ℕ) → leadsAstray (s .thread v) m ≡ true → heldBy v (s .owner) ≡ true

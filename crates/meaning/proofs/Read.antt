@@ -1,19 +1,12 @@
 -- The lines of read.
 -- Assumes nothing.
-use mathlib.Core.Path.{_≡_, refl, sym, ap, _∙_, subst}
-use mathlib.Core.Bool.{Bool, true, false}
-use mathlib.Core.Logic.{_⊎_, inl, inr}
-use Prim.Native.Nat.{ℕ, _<_, _≤_}
-use native.Mathlib.Omega.{arith}
-use lib.Dec.{eqb, ltb}
-use borrow.Author.Tests.{eqb-true, lt-ltb}
-use Rattle.meaning.specs.Table.{upd}
+use mathlib.Core.Path.{_≡_, refl, sym}
+use Prim.Native.Nat.{ℕ}
 use Rattle.meaning.specs.Store.{Store}
-use Rattle.meaning.specs.Holding.{none, free, heldBy, naming, named}
-use Rattle.meaning.specs.Choosing.{lowestFree}
-use Rattle.meaning.proofs.Words.{same, clash, free-none, naming-named, named-below, naming-not-free, naming-not-none, naming-once, upd-same}
+use Rattle.meaning.specs.Holding.{free}
+use Rattle.meaning.proofs.Words.{naming-named, named-below, naming-not-free}
 use Rattle.meaning.proofs.Invariant.{kept}
-use Rattle.meaning.proofs.Lines.{for-H, for-N, at, Line, From, _▸_, n-held, p-held, either-way, keeping, agrees-header, agrees-map, mapped-header, mapped-map, owner-free, mapped-block-free, free-block-free, numbers-blocks, lowest-free, content-guarded, kept-on, facts-idle}
+use Rattle.meaning.proofs.Lines.{for-N, at, Line, From, _▸_, n-held, p-held, either-way, mapped-block-free, numbers-blocks, kept-on, facts-idle, keeping}
 
 module _ (s : Store) (t : ℕ) where
   r1 : Line s t 2 1

@@ -1,19 +1,15 @@
 -- The lines of unmap.
 -- Assumes nothing.
-use mathlib.Core.Path.{_≡_, refl, sym, ap, _∙_, subst}
-use mathlib.Core.Bool.{Bool, true, false}
-use mathlib.Core.Logic.{_⊎_, inl, inr}
-use Prim.Native.Nat.{ℕ, _<_, _≤_}
+use mathlib.Core.Path.{refl, sym, _∙_}
+use mathlib.Core.Bool.{false}
+use Prim.Native.Nat.{ℕ}
 use native.Mathlib.Omega.{arith}
-use lib.Dec.{eqb, ltb}
-use borrow.Author.Tests.{eqb-true, eq-eqb, lt-ltb}
-use Rattle.meaning.specs.Table.{upd}
+use lib.Dec.{eqb}
+use borrow.Author.Tests.{eq-eqb}
 use Rattle.meaning.specs.Store.{Store}
-use Rattle.meaning.specs.Holding.{none, free, heldBy, naming, named}
-use Rattle.meaning.specs.Choosing.{lowestFree}
-use Rattle.meaning.proofs.Words.{same, clash, free-none, naming-named, named-below, naming-not-free, naming-not-none, naming-once, upd-same}
-use Rattle.meaning.proofs.Invariant.{Agrees}
-use Rattle.meaning.proofs.Lines.{for-H, for-N, at, Line, From, _▸_, n-held, p-held, either-way, keeping, agrees-header, agrees-map, mapped-header, mapped-map, owner-free, mapped-block-free, free-block-free, numbers-blocks, lowest-free, content-guarded, facts-idle}
+use Rattle.meaning.specs.Holding.{none, free}
+use Rattle.meaning.proofs.Words.{clash, free-none, naming-named, named-below, naming-not-none, naming-once, upd-same}
+use Rattle.meaning.proofs.Lines.{for-H, for-N, at, Line, From, _▸_, n-held, p-held, either-way, mapped-freed, mapped-map, agrees-map, owner-free, mapped-block-free, freed-agrees, numbers-blocks, facts-idle, keeping}
 
 module _ (s : Store) (t : ℕ) where
   u1 : Line s t 3 1
@@ -52,10 +48,9 @@ module _ (s : Store) (t : ℕ) where
   u7 : Line s t 3 7
   u7 n c p q h H =
       let own = p-held s t (at 3 7 n c p q h) H refl in
-      let alone : (k : ℕ) → s .map k ≡ naming p → ⊥ = λ k on. naming-not-none p (s .map n) (subst (λ (k : ℕ). s .map k ≡ naming p) (naming-once k n (sym (H .inv .agrees .headed k p on) ∙ H .facts .headed-p)) on) (H .facts .unmapped) in
-      let agrees = agrees-header (s .map) (s .header) (s .numbers) (s .blocks) p none (H .inv .agrees) alone (omega arith) in
-      let mapped = mapped-header (s .map) (s .header) p none (λ m. eqb p m) (λ m. false) (λ k x. naming-not-none k none x refl) (λ m apart x. absurd (apart (eqb-true p m x))) in
-      let head = upd-same (s .header) p none in
+      let agrees = freed-agrees s (H .inv) n p (H .facts .headed-p) (λ on. naming-not-none p (s .map n) on (H .facts .unmapped)) in
+      let mapped = mapped-freed (s .map) (s .header) p in
+      let freed = upd-same (s .header) p none in
       rw (H .holds .owner, own) (search (keeping, mapped, H .holds .locks, H .holds .own))
 
   u8 : Line s t 3 8

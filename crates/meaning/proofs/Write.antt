@@ -1,19 +1,16 @@
 -- The lines of write.
 -- Assumes nothing.
-use mathlib.Core.Path.{_≡_, refl, sym, ap, _∙_, subst}
-use mathlib.Core.Bool.{Bool, true, false}
-use mathlib.Core.Logic.{_⊎_, inl, inr}
-use Prim.Native.Nat.{ℕ, _<_, _≤_}
+use mathlib.Core.Path.{_≡_, refl, ap, subst}
+use mathlib.Core.Bool.{false}
+use Prim.Native.Nat.{ℕ}
 use native.Mathlib.Omega.{arith}
-use lib.Dec.{eqb, ltb}
+use lib.Dec.{eqb}
 use borrow.Author.Tests.{eqb-true, lt-ltb}
-use Rattle.meaning.specs.Table.{upd}
 use Rattle.meaning.specs.Store.{Store}
-use Rattle.meaning.specs.Holding.{none, free, heldBy, naming, named}
+use Rattle.meaning.specs.Holding.{free, naming}
 use Rattle.meaning.specs.Choosing.{lowestFree}
-use Rattle.meaning.proofs.Words.{same, clash, free-none, naming-named, named-below, naming-not-free, naming-not-none, naming-once, upd-same}
-use Rattle.meaning.proofs.Invariant.{Agrees}
-use Rattle.meaning.proofs.Lines.{for-H, for-N, at, Line, From, _▸_, n-held, p-held, either-way, keeping, agrees-header, agrees-map, mapped-header, mapped-map, owner-free, mapped-block-free, free-block-free, numbers-blocks, lowest-free, content-guarded, facts-idle}
+use Rattle.meaning.proofs.Words.{same, free-none, naming-named, named-below, naming-not-free, naming-not-none, naming-once, upd-same}
+use Rattle.meaning.proofs.Lines.{for-H, for-N, at, Line, From, _▸_, n-held, p-held, either-way, mapped-headed, mapped-map, agrees-map, owner-free, mapped-block-free, free-block-free, headed-agrees, numbers-blocks, lowest-free, content-guarded, facts-idle, keeping}
 
 module _ (s : Store) (t : ℕ) where
   w1 : Line s t 1 1
@@ -48,10 +45,9 @@ module _ (s : Store) (t : ℕ) where
   w7 : Line s t 1 7
   w7 n c p q h H =
       let own = p-held s t (at 1 7 n c p q h) H refl in
-      let alone : (k : ℕ) → s .map k ≡ naming p → ⊥ = λ k on. naming-not-none k (s .header p) (H .inv .agrees .headed k p on) (H .facts .free-p) in
-      let agrees = agrees-header (s .map) (s .header) (s .numbers) (s .blocks) p (naming n) (H .inv .agrees) alone (omega arith) in
-      let mapped = mapped-header (s .map) (s .header) p (naming n) (λ m. false) (λ m. eqb p m) (λ k _. same p) (λ m _ x. clash x refl) in
-      let head = upd-same (s .header) p (naming n) in
+      let agrees = headed-agrees s (H .inv) p (naming n) (H .facts .free-p) (omega arith) in
+      let mapped = mapped-headed (s .map) (s .header) p (naming n) (λ m. eqb p m) (same p) in
+      let headed = upd-same (s .header) p (naming n) in
       rw (H .holds .owner, own) (search (keeping, mapped, H .holds .locks, H .holds .own))
 
   w8 : Line s t 1 8

@@ -10,67 +10,67 @@ use Rattle.meaning.specs.Store.{Store}
 use Rattle.meaning.specs.Holding.{none, free, naming, named}
 use Rattle.meaning.specs.Choosing.{toBlock}
 use Rattle.meaning.specs.declared.Found.the-variants.{At}
-use Rattle.meaning.specs.Programs.{actAt}
+use Rattle.meaning.specs.Programs.{LEVEL, actAt}
 use Rattle.meaning.specs.Step.{perform}
 use Rattle.meaning.proofs.Words.{same, naming-named, named-below, naming-not-free, naming-once, upd-same, upd-other}
 use Rattle.meaning.proofs.Lines.{for-H, for-N, Fine, at, Line, From, _▸_, n-held, p-held, q-held, either-way, second-taken, second-given, mapped-headed, mapped-freed, mapped-map, agrees-map, headed-apart, owner-free, mapped-block-free, free-block-free, headed-agrees, freed-agrees, settled-owner, numbers-blocks, to-found, from-below, content-guarded, facts-idle, keeping}
 
 module _ (s : Store) (t : ℕ) where
-  l1 : Line s t 4 1
-  l1 n c p q h H =
-      either-way (free (s .lock)) (λ f. rw f (search (keeping, H .inv .agrees))) (λ f. rw f (for-H refl refl f))
+  L1 : Line s t LEVEL 1
+  L1 n c p q h H =
+      either-way (free (s .lock)) (λ f. rw f (search (keeping))) (λ f. rw f (for-H refl refl f))
 
-  l2 : Line s t 4 2
-  l2 n c p q h H =
+  L2 : Line s t LEVEL 2
+  L2 n c p q h H =
       let f = owner-free s (H .inv) t (H .holds .lock) (H .holds .owner) in
-      rw f (search (keeping, H .inv .agrees, H .holds .locks))
+      rw f (search (keeping, H .holds .locks))
 
-  l3 : Line s t 4 3
-  l3 n c p q h H = let to = to-found s (H .inv) t (H .holds .owner) (λ m. rw (H .is)) in chosen (to .0) (to .1) (to .2) (to .3)
+  L3 : Line s t LEVEL 3
+  L3 n c p q h H = let to = to-found s (H .inv) t (H .holds .owner) (λ m. rw (H .is)) in chosen (to .0) (to .1) (to .2) (to .3)
     where
-      chosen : (to : ℕ) → toBlock (s .header) (s .wear) (s .blocks) ≡ At to → to < s .blocks → s .header to ≡ none → Fine s t (at 4 3 n c p q h) (perform (actAt 4 3) s t (at 4 3 n c p q h))
+      chosen : (to : ℕ) → toBlock (s .header) (s .wear) (s .blocks) ≡ At to → to < s .blocks → s .header to ≡ none → Fine s t (at LEVEL 3 n c p q h) (perform (actAt LEVEL 3) s t (at LEVEL 3 n c p q h))
       chosen to found below empty =
           let from = from-below s (H .inv) to below in
-          rw (H .holds .owner, found) (search (keeping, H .inv .agrees, H .holds .locks))
+          rw (H .holds .owner, found) (search (keeping, H .holds .locks))
 
-  l4 : Line s t 4 4
-  l4 n c p q h H =
+  L4 : Line s t LEVEL 4
+  L4 n c p q h H =
       let below = H .inv .agrees .header-below p in
-      rw (H .holds .owner) (search (keeping, H .inv .agrees, H .holds .locks))
+      rw (H .holds .owner) (search (keeping, H .holds .locks))
 
-  l5 : Line s t 4 5
-  l5 n c p q h H =
+  L5 : Line s t LEVEL 5
+  L5 n c p q h H =
       either-way (free h)
-      (λ f. rw f (search (keeping, H .inv .agrees, H .holds .locks)))
+      (λ f. rw f (search (keeping, H .holds .locks)))
       (λ f. rw f (let names = naming-named h f in
       let below = named-below h (s .numbers) f (H .facts .h-below) in
       let headed = sym (H .facts .heads-p) ∙ names in
       let on = settled-owner s (H .inv) t (H .holds .owner) (λ m. rw (H .is)) p (named h) headed in
-      search (keeping, H .inv .agrees, H .holds .locks)))
+      search (keeping, H .holds .locks)))
 
-  l6 : Line s t 4 6
-  l6 n c p q h H =
-      either-way (free (s .locks n)) (λ f. rw f (search (keeping, H .inv .agrees, H .holds .locks))) (λ f. rw f (for-N refl f))
+  L6 : Line s t LEVEL 6
+  L6 n c p q h H =
+      either-way (free (s .locks n)) (λ f. rw f (search (keeping, H .holds .locks))) (λ f. rw f (for-N refl f))
 
-  l7 : Line s t 4 7
-  l7 n c p q h H =
-      let f = mapped-block-free s (H .inv) t n p (H .facts .on-p) (n-held s t (at 4 7 n c p q h) H refl) (H .holds .own p) in
-      rw f (search (keeping, H .inv .agrees, H .holds .locks, H .holds .own))
+  L7 : Line s t LEVEL 7
+  L7 n c p q h H =
+      let f = mapped-block-free s (H .inv) t n p (H .facts .on-p) (n-held H refl) (H .holds .own p) in
+      rw f (search (keeping, H .holds .locks, H .holds .own))
 
-  l8 : Line s t 4 8
-  l8 n c p q h H =
-      let own = p-held s t (at 4 8 n c p q h) H refl in
-      rw (own, naming-not-free n (s .header p) (H .facts .headed-p)) (search (keeping, H .inv .agrees, H .holds .locks, H .holds .own))
+  L8 : Line s t LEVEL 8
+  L8 n c p q h H =
+      let own = p-held H refl in
+      rw (own, naming-not-free n (s .header p) (H .facts .headed-p)) (search (keeping, H .holds .locks, H .holds .own))
 
-  l9 : Line s t 4 9
-  l9 n c p q h H =
+  L9 : Line s t LEVEL 9
+  L9 n c p q h H =
       let apart = headed-apart s n p q (H .facts .headed-p) (H .facts .free-q) in
       let f = free-block-free s (H .inv) t q (H .facts .free-q) (H .holds .owner) (H .holds .own q ∙ ne-eqb p q apart) in
-      rw f (search (keeping, second-taken, H .inv .agrees, H .holds .locks, H .holds .own))
+      rw f (search (keeping, second-taken, H .holds .locks, H .holds .own))
 
-  l10 : Line s t 4 10
-  l10 n c p q h H =
-      let own = q-held s t (at 4 10 n c p q h) H refl in
+  L10 : Line s t LEVEL 10
+  L10 n c p q h H =
+      let own = q-held H refl in
       let apart = headed-apart s n p q (H .facts .headed-p) (H .facts .free-q) in
       let agrees = headed-agrees s (H .inv) q h (H .facts .free-q) (H .facts .h-below) in
       let mapped = mapped-headed (s .map) (s .header) q h (λ m. eqb q m || false) (rw (same q)) in
@@ -78,17 +78,17 @@ module _ (s : Store) (t : ℕ) where
       let headed-q = upd-same (s .header) q h ∙ H .facts .names-n in
       rw (H .holds .owner, own) (search (keeping, mapped, H .holds .locks, H .holds .own))
 
-  l11 : Line s t 4 11
-  l11 n c p q h H =
-      let own = q-held s t (at 4 11 n c p q h) H refl in
-      let guarded = content-guarded s (H .inv) t n q (H .facts .headed-q) (n-held s t (at 4 11 n c p q h) H refl) own in
+  L11 : Line s t LEVEL 11
+  L11 n c p q h H =
+      let own = q-held H refl in
+      let guarded = content-guarded s (H .inv) t n q (H .facts .headed-q) (n-held H refl) own in
       let copied = H .facts .copied ∙ sym (upd-other (s .content) q p c (λ e. H .facts .apart (sym e))) in
       let pasted = upd-same (s .content) q c in
-      rw (own, naming-not-free n (s .header q) (H .facts .headed-q)) (search (keeping, H .inv .agrees, H .holds .locks, H .holds .own))
+      rw (own, naming-not-free n (s .header q) (H .facts .headed-q)) (search (keeping, H .holds .locks, H .holds .own))
 
-  l12 : Line s t 4 12
-  l12 n c p q h H =
-      let lock = n-held s t (at 4 12 n c p q h) H refl in
+  L12 : Line s t LEVEL 12
+  L12 n c p q h H =
+      let lock = n-held H refl in
       let headed : (m : ℕ) → q ≡ m → s .header m ≡ naming n = λ m e. subst (λ (m : ℕ). s .header m ≡ naming n) e (H .facts .headed-q) in
       let here : (m : ℕ) → (eqb q m || false) ≡ true → q ≡ m = λ m x. eqb-true q m (rw (or-false (eqb q m)) at x) in
       let agrees = agrees-map (s .map) (s .header) (s .numbers) (s .blocks) n (naming q) (H .inv .agrees) (λ m e. headed m (naming-once q m e)) (omega arith) in
@@ -96,36 +96,36 @@ module _ (s : Store) (t : ℕ) where
       let on = upd-same (s .map) n (naming q) in
       search (keeping, mapped, H .holds .locks, H .holds .own)
 
-  l13 : Line s t 4 13
-  l13 n c p q h H =
-      let own = p-held s t (at 4 13 n c p q h) H refl in
+  L13 : Line s t LEVEL 13
+  L13 n c p q h H =
+      let own = p-held H refl in
       let agrees = freed-agrees s (H .inv) n p (H .facts .headed-p) (λ on. H .facts .apart (naming-once p q (sym on ∙ H .facts .on-q))) in
       let mapped = mapped-freed (s .map) (s .header) p in
       let freed = upd-same (s .header) p none in
       rw (H .holds .owner, own) (search (keeping, mapped, H .holds .locks, H .holds .own))
 
-  l14 : Line s t 4 14
-  l14 n c p q h H =
-      let own = q-held s t (at 4 14 n c p q h) H refl in
-      rw own (search (keeping, second-given t (s .own) q p (H .facts .apart), H .inv .agrees, H .holds .locks, H .holds .own))
+  L14 : Line s t LEVEL 14
+  L14 n c p q h H =
+      let own = q-held H refl in
+      rw own (search (keeping, second-given t (s .own) q p (H .facts .apart), H .holds .locks, H .holds .own))
 
-  l15 : Line s t 4 15
-  l15 n c p q h H =
-      let own = p-held s t (at 4 15 n c p q h) H refl in
-      rw own (search (keeping, H .inv .agrees, H .holds .locks, H .holds .own))
+  L15 : Line s t LEVEL 15
+  L15 n c p q h H =
+      let own = p-held H refl in
+      rw own (search (keeping, H .holds .locks, H .holds .own))
 
-  l16 : Line s t 4 16
-  l16 n c p q h H =
-      let lock = n-held s t (at 4 16 n c p q h) H refl in
-      rw lock (search (keeping, H .inv .agrees, H .holds .locks, H .holds .own))
+  L16 : Line s t LEVEL 16
+  L16 n c p q h H =
+      let lock = n-held H refl in
+      rw lock (search (keeping, H .holds .locks, H .holds .own))
 
-  l17 : Line s t 4 17
-  l17 n c p q h H = rw (H .holds .owner) (search (keeping, H .inv .agrees, H .holds .locks, H .holds .own))
+  L17 : Line s t LEVEL 17
+  L17 n c p q h H = rw (H .holds .owner) (search (keeping, H .holds .locks, H .holds .own))
 
-  l18 : Line s t 4 18
-  l18 n c p q h H =
+  L18 : Line s t LEVEL 18
+  L18 n c p q h H =
       let sizes = numbers-blocks s (H .inv) in
-      rw (H .holds .lock) (search (keeping, facts-idle, H .inv .agrees, H .holds .locks, H .holds .own))
+      rw (H .holds .lock) (search (keeping, facts-idle, H .holds .locks, H .holds .own))
 
-  pub levels : From (Line s t 4) 1 18
-  levels = l1 ▸ l2 ▸ l3 ▸ l4 ▸ l5 ▸ l6 ▸ l7 ▸ l8 ▸ l9 ▸ l10 ▸ l11 ▸ l12 ▸ l13 ▸ l14 ▸ l15 ▸ l16 ▸ l17 ▸ l18 ▸ tt
+  pub levels : From (Line s t LEVEL) 1 18
+  levels = L1 ▸ L2 ▸ L3 ▸ L4 ▸ L5 ▸ L6 ▸ L7 ▸ L8 ▸ L9 ▸ L10 ▸ L11 ▸ L12 ▸ L13 ▸ L14 ▸ L15 ▸ L16 ▸ L17 ▸ L18 ▸ tt

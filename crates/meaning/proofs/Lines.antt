@@ -71,14 +71,14 @@ from-at P (suc k) l all j low high =
     go rest (inl e) = subst P (eqb-true l j e) (all .0)
     go rest (inr e) = let x : l ≡ j → ⊥ = eqb-false l j e in rest (omega arith) (omega arith)
 
-pub n-held : (s : Store) (t : ℕ) (r : Thread) → Here s t r → holdsN r ≡ true → heldBy t (s .locks (r .n)) ≡ true
-n-held s t r H x = H .holds .locks (r .n) ∙ rw (x, same (r .n))
+pub n-held : {s : Store} {t : ℕ} {r : Thread} → Here s t r → holdsN r ≡ true → heldBy t (s .locks (r .n)) ≡ true
+n-held {r} H x = H .holds .locks (r .n) ∙ rw (x, same (r .n))
 
-pub p-held : (s : Store) (t : ℕ) (r : Thread) → Here s t r → ownsP r ≡ true → heldBy t (s .own (r .p)) ≡ true
-p-held s t r H x = H .holds .own (r .p) ∙ p-owned r x
+pub p-held : {s : Store} {t : ℕ} {r : Thread} → Here s t r → ownsP r ≡ true → heldBy t (s .own (r .p)) ≡ true
+p-held {r} H x = H .holds .own (r .p) ∙ p-owned r x
 
-pub q-held : (s : Store) (t : ℕ) (r : Thread) → Here s t r → ownsQ r ≡ true → heldBy t (s .own (r .q)) ≡ true
-q-held s t r H x = H .holds .own (r .q) ∙ q-owned r x
+pub q-held : {s : Store} {t : ℕ} {r : Thread} → Here s t r → ownsQ r ≡ true → heldBy t (s .own (r .q)) ≡ true
+q-held {r} H x = H .holds .own (r .q) ∙ q-owned r x
 
 -- one way or the other
 pub either-way : (b : Bool) {A : Type 0} → (b ≡ true → A) → (b ≡ false → A) → A

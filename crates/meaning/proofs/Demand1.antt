@@ -14,7 +14,7 @@ use Rattle.meaning.specs.declared.Verdict.the-variants.{Blocked, Fault, 
 use Rattle.meaning.specs.Numbers.{FINISHED}
 use Rattle.meaning.specs.Limits.{within, inLimits}
 use Rattle.meaning.specs.Store.{Store, idle, fresh}
-use Rattle.meaning.specs.Holding.{free}
+use Rattle.meaning.specs.Holding.{none, free}
 use Rattle.meaning.specs.Programs.{WRITE, LEVEL, lastLine}
 use Rattle.meaning.specs.Step.{nothing, verdict}
 use Rattle.meaning.specs.Call.{Entry, begin, step, callStore, reply, told, isIdle, begun, storedN}
@@ -38,8 +38,8 @@ inv-fresh t n p d l =
       past = λ v _. refl;
       holds = λ v. search none-held;
       facts = λ v. facts-idle (fresh t n p d) (sizes .1) (sizes .0);
-      agrees = record { headed = λ k m e. naming-not-none m 0 e refl; map-below = λ k. omega arith; header-below = λ m. omega arith };
-      mapped = λ m k e. naming-not-none k 0 e refl;
+      agrees = record { headed = λ k m e. naming-not-none m none e refl; map-below = λ k. omega arith; header-below = λ m. omega arith };
+      mapped = λ m k e. naming-not-none k none e refl;
     }
 
 -- ---- every line is fine
@@ -57,7 +57,7 @@ idle-is r (inr o) rests =
     absurd (omega arith)
 
 module _ (s : Store) (I : Inv s) where
-  fine : (t : ℕ) → isIdle (s .thread t) ≡ false → Fine s t (s .thread t) (verdict s t)
+  pub fine : (t : ℕ) → isIdle (s .thread t) ≡ false → Fine s t (s .thread t) (verdict s t)
   fine t busy =
       let r = s .thread t in
       let o : onLine r ≡ true = open-line r (I .stands t) busy in

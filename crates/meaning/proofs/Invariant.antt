@@ -67,6 +67,14 @@ ownsP = row ((7 – 9) ++ (14 – 15)) (4 – 5) (6 – 8) (8 – 15)
 abbrev pub ownsQ : Thread → Bool
 ownsQ = row never never never (10 – 14)
 
+-- -- what it is about to take
+
+abbrev pub takesH : Thread → Bool
+takesH = row (1 – 1) never (1 – 1) (1 – 1)
+
+abbrev pub takesN : Thread → Bool
+takesN = row (2 – 2) (1 – 1) (2 – 2) (6 – 6)
+
 -- -- what it knows of the map
 
 abbrev pub n-unmapped : Thread → Bool
@@ -152,6 +160,9 @@ If true A = A
 If false A = Unit {0}
 
 -- the lock of number k, the block m, the block m whose header and the map disagree: through which register it may be
+abbrev pub takesLock : Thread → ℕ → Bool
+takesLock r k = takesN r && eqb (r .n) k
+
 abbrev pub holdsLock : Thread → ℕ → Bool
 holdsLock r k = holdsN r && eqb (r .n) k
 
@@ -228,10 +239,10 @@ abbrev pub Puts : Entry → (ℕ → ℕ → Type 0) → Type 0
 Puts Keep guard = Unit {0}
 Puts (Put i w) guard = guard i w
 
--- a lock or owner word: only t takes it where it is free, and only t frees it where t has it
-pub record Passes (t : ℕ) (w w′ : ℕ) : Type 0 where
-  pub had : (free w || heldBy t w) ≡ true
-  pub passed : (w′ ≡ none) ⊎ (w′ ≡ by t)
+-- a lock or owner word: t takes it where it is free, or gives it up where it is t's; a lock is taken only by who is about to
+pub data Passes (about : Type 0) (t w w′ : ℕ) : Type 0 where
+  takes : free w ≡ true → about → w′ ≡ by t → Passes about t w w′
+  gives : heldBy t w ≡ true → w′ ≡ none → Passes about t w w′
 
 -- a map entry: the headers' owner with the number's lock
 pub record GuardsMap (s : Store) (t k : ℕ) : Type 0 where
@@ -252,12 +263,12 @@ pub record GuardsContent (s : Store) (t m : ℕ) : Type 0 where
 pub record GuardsWear (s : Store) (t m : ℕ) : Type 0 where
   pub lock : heldBy t (s .lock) ≡ true
 
--- thread t has in store s what guards each word that the effect changes
-pub record Guards (s : Store) (t : ℕ) (e : Effect) : Type 0 where
-  pub lock : Changes (e .lock) (Passes t (s .lock))
-  pub owner : Changes (e .owner) (Passes t (s .owner))
-  pub locks : Puts (e .locks) (λ k. Passes t (s .locks k))
-  pub own : Puts (e .own) (λ m. Passes t (s .own m))
+-- thread t with record r has in store s what guards each word that the effect changes
+pub record Guards (s : Store) (t : ℕ) (r : Thread) (e : Effect) : Type 0 where
+  pub lock : Changes (e .lock) (Passes (takesH r ≡ true) t (s .lock))
+  pub owner : Changes (e .owner) (Passes Unit t (s .owner))
+  pub locks : Puts (e .locks) (λ k. Passes (takesLock r k ≡ true) t (s .locks k))
+  pub own : Puts (e .own) (λ m. Passes Unit t (s .own m))
   pub map : Puts (e .map) (λ k w. GuardsMap s t k)
   pub header : Puts (e .header) (λ m w. GuardsHeader s t m)
   pub content : Puts (e .content) (λ m w. GuardsContent s t m)

@@ -5,10 +5,10 @@
 use mathlib.Core.Path.{_≡_, refl, sym, _∙_, subst, fun-ext}
 use mathlib.Core.Bool.{Bool, true, false, not, cond, _&&_, _||_, or-true}
 use mathlib.Core.Logic.{_⊎_, inl, inr}
-use Prim.Native.Nat.{ℕ, zero, suc, _+_, _<_, _≤_}
+use Prim.Native.Nat.{ℕ, zero, suc, _+_, _-_, _<_, _≤_}
 use native.Mathlib.Omega.{arith}
-use lib.Dec.{eqb, leb}
-use borrow.Author.Tests.{eqb-true, eqb-false, leb-true}
+use lib.Dec.{eqb}
+use borrow.Author.Tests.{eqb-true, eqb-false}
 use Rattle.meaning.specs.declared.Thread.{Thread}
 use Rattle.meaning.specs.declared.Word.{Word}
 use Rattle.meaning.specs.declared.Word.the-variants.{Stay, Become}
@@ -18,11 +18,11 @@ use Rattle.meaning.specs.declared.Effect.{Effect}
 use Rattle.meaning.specs.Table.{every}
 use Rattle.meaning.specs.Limits.{within}
 use Rattle.meaning.specs.Store.{Store, idle}
-use Rattle.meaning.specs.Holding.{none, free, by, heldBy, naming, named}
+use Rattle.meaning.specs.Holding.{free, heldBy, naming, named}
 use Rattle.meaning.specs.Programs.{WRITE, LEVEL, lastLine}
 use Rattle.meaning.specs.Step.{become, put, apply}
-use Rattle.meaning.proofs.Words.{same, either, and-left, and-right, or-either, by-other, none-held, free-held, held-once, naming-named, upd-other, upd-each}
-use Rattle.meaning.proofs.Invariant.{holdsH, holdsN, ownsHeaders, ownsP, ownsQ, n-unmapped, n-on-p, n-on-q, p-free, q-free, p-headed, q-headed, h-heads-p, chosen-now, c-of-p, q-has-c, c-of-n, If, ownsBlock, leadsAstray, Holds, kept, Facts, Stands, Changes, Puts, Passes, GuardsMap, GuardsHeader, GuardsContent, GuardsWear, Guards, Agrees, Astray, Inv}
+use Rattle.meaning.proofs.Words.{same, either, and-left, and-right, or-either, within-true, by-other, none-held, free-held, held-is, held-once, naming-named, upd-other, upd-each}
+use Rattle.meaning.proofs.Invariant.{takesH, takesLock, takes, gives, holdsH, holdsN, ownsHeaders, ownsP, ownsQ, n-unmapped, n-on-p, n-on-q, p-free, q-free, p-headed, q-headed, h-heads-p, chosen-now, c-of-p, q-has-c, c-of-n, If, ownsBlock, leadsAstray, Holds, kept, Facts, Stands, Changes, Puts, Passes, GuardsMap, GuardsHeader, GuardsContent, GuardsWear, Guards, Agrees, Astray, Inv}
 
 -- ---- a rule of the table, tested at every line
 
@@ -31,7 +31,7 @@ standing op line = record { op = op; line = line; n = 0; c = 0; p = 0; q = 0; h 
 
 -- the test at idle and at each line of each operation
 abbrev pub everyLine : (ℕ → ℕ → Bool) → Bool
-everyLine test = every (LEVEL + 1) (λ op. every (lastLine op + 1) (test op))
+everyLine test = test 0 0 && every LEVEL (λ k. every (lastLine (k + 1)) (λ l. test (k + 1) (l + 1)))
 
 every-at : (k : ℕ) (test : ℕ → Bool) → every k test ≡ true → (l : ℕ) → l < k → test l ≡ true
 every-at zero test all l below = absurd (omega arith)
@@ -43,15 +43,15 @@ every-at (suc k) test all l below =
     go rest (inr e) = let apart : l ≡ k → ⊥ = eqb-false l k e in rest (omega arith)
 
 pub everywhere : (test : ℕ → ℕ → Bool) → everyLine test ≡ true → (r : Thread) → Stands r → test (r .op) (r .line) ≡ true
-everywhere test all r (inl i) =
-    rw i (every-at 1 (test 0) (every-at 5 (λ op. every (lastLine op + 1) (test op)) all 0 (omega arith)) 0 (omega arith))
+everywhere test all r (inl i) = rw i (and-left (test 0 0) _ all)
 everywhere test all r (inr o) =
-    let op : r .op ≤ LEVEL =
-    leb-true (r .op) LEVEL (and-right (leb 1 (r .op)) _ (and-left (within WRITE LEVEL (r .op)) _ o)) in
-    let line : r .line ≤ lastLine (r .op) =
-    leb-true (r .line) (lastLine (r .op)) (and-right (leb 1 (r .line)) _ (and-right (within WRITE LEVEL (r .op)) _ o)) in
-    every-at (lastLine (r .op) + 1) (test (r .op))
-    (every-at 5 (λ op. every (lastLine op + 1) (test op)) all (r .op) (omega arith)) (r .line) (omega arith)
+    let op = within-true WRITE LEVEL (r .op) (and-left _ (within 1 (lastLine (r .op)) (r .line)) o) in
+    let line = within-true 1 (lastLine (r .op)) (r .line) (and-right (within WRITE LEVEL (r .op)) _ o) in
+    let op-is : r .op - 1 + 1 ≡ r .op = omega arith in
+    let line-is : r .line - 1 + 1 ≡ r .line = omega arith in
+    let each : every (lastLine (r .op)) (λ l. test (r .op) (l + 1)) ≡ true =
+    rw op-is at (every-at LEVEL (λ k. every (lastLine (k + 1)) (λ l. test (k + 1) (l + 1))) (and-right (test 0 0) _ all) (r .op - 1) (omega arith)) in
+    rw line-is at (every-at (lastLine (r .op)) (λ l. test (r .op) (l + 1)) each (r .line - 1) (omega arith))
 
 -- where the one flag is up, so is the other
 abbrev pub implies : (Thread → Bool) → (Thread → Bool) → Bool
@@ -62,24 +62,17 @@ up a b all r st x = rw x at (everywhere (λ op line. not (a (standing op line)) 
 
 -- ---- words and tables that another thread keeps
 
-passes-other : (t v w w′ : ℕ) → (t ≡ v → ⊥) → Passes t w w′ → heldBy v w′ ≡ heldBy v w
-passes-other t v w w′ apart x = go (x .passed) ∙ sym (old (or-either (free w) (heldBy t w) (x .had)))
-  where
-    old : (free w ≡ true) ⊎ (heldBy t w ≡ true) → heldBy v w ≡ false
-    old (inl f) = free-held v w f
-    old (inr h) = rw (eqb-true w (t + 1) h) (by-other t v apart)
+passes-other : {about : Type 0} (t v w w′ : ℕ) → (t ≡ v → ⊥) → Passes about t w w′ → heldBy v w′ ≡ heldBy v w
+passes-other t v w w′ apart (takes f _ e) = rw e (by-other t v apart ∙ sym (free-held v w f))
+passes-other t v w w′ apart (gives h e) = rw (e, held-is t w h) (none-held v ∙ sym (by-other t v apart))
 
-    go : (w′ ≡ none) ⊎ (w′ ≡ by t) → heldBy v w′ ≡ false
-    go (inl e) = rw e (none-held v)
-    go (inr e) = rw e (by-other t v apart)
+pub word-kept : (about : Type 0) (t v : ℕ) → (t ≡ v → ⊥) → (c : Word) (w : ℕ) → Changes c (Passes about t w) → heldBy v (become c w) ≡ heldBy v w
+word-kept about t v apart Stay w x = refl
+word-kept about t v apart (Become w′) w x = passes-other t v w w′ apart x
 
-word-kept : (t v : ℕ) → (t ≡ v → ⊥) → (c : Word) (w : ℕ) → Changes c (Passes t w) → heldBy v (become c w) ≡ heldBy v w
-word-kept t v apart Stay w x = refl
-word-kept t v apart (Become w′) w x = passes-other t v w w′ apart x
-
-entry-kept : (t v : ℕ) → (t ≡ v → ⊥) → (c : Entry) (f : ℕ → ℕ) → Puts c (λ k. Passes t (f k)) → (k : ℕ) → heldBy v (put c f k) ≡ heldBy v (f k)
-entry-kept t v apart Keep f x k = refl
-entry-kept t v apart (Put i w) f x k =
+pub entry-kept : (about : ℕ → Type 0) (t v : ℕ) → (t ≡ v → ⊥) → (c : Entry) (f : ℕ → ℕ) → Puts c (λ k. Passes (about k) t (f k)) → (k : ℕ) → heldBy v (put c f k) ≡ heldBy v (f k)
+entry-kept about t v apart Keep f x k = refl
+entry-kept about t v apart (Put i w) f x k =
     upd-each (λ k y. heldBy v y ≡ heldBy v (f k)) f i w (passes-other t v (f i) w apart x) (λ k _. refl) k
 
 -- an entry whose guard its writer can't have stays as it was
@@ -104,7 +97,7 @@ q-owned r x = rw (x, same (r .q))
 
 -- ---- a step of t, seen by another thread v
 
-module _ (s : Store) (I : Inv s) (t : ℕ) (e : Effect) (G : Guards s t e) (v : ℕ) (apart : t ≡ v → ⊥) where
+module _ (s : Store) (I : Inv s) (t : ℕ) (r : Thread) (e : Effect) (G : Guards s t r e) (v : ℕ) (apart : t ≡ v → ⊥) where
   -- t has no lock, owner or block that v has
   lock-lacks : holdsH (s .thread v) ≡ true → heldBy t (s .lock) ≡ true → ⊥
   lock-lacks x h = apart (held-once t v (s .lock) h (I .holds v .lock ∙ x))
@@ -121,7 +114,7 @@ module _ (s : Store) (I : Inv s) (t : ℕ) (e : Effect) (G : Guards s t e) (v : 
   own-lacks m x h = apart (held-once t v (s .own m) h (I .holds v .own m ∙ x))
 
   -- so what v knows stays
-  map-kept : (holdsN (s .thread v) || ownsHeaders (s .thread v)) ≡ true → put (e .map) (s .map) (s .thread v .n) ≡ s .map (s .thread v .n)
+  pub map-kept : (holdsN (s .thread v) || ownsHeaders (s .thread v)) ≡ true → put (e .map) (s .map) (s .thread v .n) ≡ s .map (s .thread v .n)
   map-kept x =
       put-kept (e .map) (s .map) (λ k w. GuardsMap s t k) (G .map) (s .thread v .n)
       (λ w g. lacks g (or-either (holdsN (s .thread v)) (ownsHeaders (s .thread v)) x))
@@ -130,15 +123,15 @@ module _ (s : Store) (I : Inv s) (t : ℕ) (e : Effect) (G : Guards s t e) (v : 
       lacks g (inl y) = locks-lacks y (g .locks)
       lacks g (inr y) = owner-lacks y (g .owner)
 
-  header-kept : ownsHeaders (s .thread v) ≡ true → put (e .header) (s .header) ≡ s .header
+  pub header-kept : ownsHeaders (s .thread v) ≡ true → put (e .header) (s .header) ≡ s .header
   header-kept x =
       fun-ext (λ m. put-kept (e .header) (s .header) (λ m w. GuardsHeader s t m) (G .header) m (λ w g. owner-lacks x (g .owner)))
 
-  wear-kept : holdsH (s .thread v) ≡ true → put (e .wear) (s .wear) ≡ s .wear
+  pub wear-kept : holdsH (s .thread v) ≡ true → put (e .wear) (s .wear) ≡ s .wear
   wear-kept x =
       fun-ext (λ m. put-kept (e .wear) (s .wear) (λ m w. GuardsWear s t m) (G .wear) m (λ w g. lock-lacks x (g .lock)))
 
-  content-kept : (m : ℕ) → ownsBlock (s .thread v) m ≡ true → put (e .content) (s .content) m ≡ s .content m
+  pub content-kept : (m : ℕ) → ownsBlock (s .thread v) m ≡ true → put (e .content) (s .content) m ≡ s .content m
   content-kept m x =
       put-kept (e .content) (s .content) (λ m w. GuardsContent s t m) (G .content) m (λ w g. own-lacks m x (g .own))
 
@@ -158,10 +151,10 @@ module _ (s : Store) (I : Inv s) (t : ℕ) (e : Effect) (G : Guards s t e) (v : 
   holds-kept : (r′ : Thread) → Holds (apply s t r′ e) v (s .thread v)
   holds-kept r′ =
       record {
-        lock = word-kept t v apart (e .lock) (s .lock) (G .lock) ∙ I .holds v .lock;
-        owner = word-kept t v apart (e .owner) (s .owner) (G .owner) ∙ I .holds v .owner;
-        locks = λ k. entry-kept t v apart (e .locks) (s .locks) (G .locks) k ∙ I .holds v .locks k;
-        own = λ m. entry-kept t v apart (e .own) (s .own) (G .own) m ∙ I .holds v .own m;
+        lock = word-kept (takesH r ≡ true) t v apart (e .lock) (s .lock) (G .lock) ∙ I .holds v .lock;
+        owner = word-kept Unit t v apart (e .owner) (s .owner) (G .owner) ∙ I .holds v .owner;
+        locks = λ k. entry-kept (λ k. takesLock r k ≡ true) t v apart (e .locks) (s .locks) (G .locks) k ∙ I .holds v .locks k;
+        own = λ m. entry-kept (λ m. Unit) t v apart (e .own) (s .own) (G .own) m ∙ I .holds v .own m;
       }
 
   facts-kept : (r′ : Thread) → Facts (apply s t r′ e) (s .thread v)
@@ -204,7 +197,7 @@ module _ (s : Store) (I : Inv s) (t : ℕ) (e : Effect) (G : Guards s t e) (v : 
 -- Thread t with record r goes on with record r′ and an effect. A line's own part: what it has that guards what it changes, and what the
 -- table's rows say of it at its next line. Whatever else is to be known of each step becomes a field here.
 pub record Moves (s : Store) (t : ℕ) (r r′ : Thread) (e : Effect) : Type 0 where
-  pub guards : Guards s t e
+  pub guards : Guards s t r e
   pub stands : Stands r′
   pub holds : Holds (apply s t r′ e) t r′
   pub facts : Facts (apply s t r′ e) r′
@@ -242,10 +235,10 @@ module _ (s : Store) (I : Inv s) (t : ℕ) (r′ : Thread) (e : Effect) (M : Mov
             upd-each (λ v r. s .threads ≤ v → r ≡ idle) (s .thread) t r′ (λ above. absurd (omega arith)) (λ v _. I .past v);
         holds =
             upd-each (λ v r. Holds (apply s t r′ e) v r) (s .thread) t r′ (M .holds)
-            (λ v apart. holds-kept s I t e (M .guards) v apart r′);
+            (λ v apart. holds-kept s I t (s .thread t) e (M .guards) v apart r′);
         facts =
             upd-each (λ v r. Facts (apply s t r′ e) r) (s .thread) t r′ (M .facts)
-            (λ v apart. facts-kept s I t e (M .guards) v apart r′);
+            (λ v apart. facts-kept s I t (s .thread t) e (M .guards) v apart r′);
         agrees = M .agrees;
         mapped = mapped-kept;
       }

@@ -9,3 +9,4 @@ pub mod Read
 pub mod Unmap
 pub mod Level
 pub mod Demand1
+pub mod EitherOrder

@@ -2,7 +2,7 @@
 -- takes, owns, releases or lets go holds next, and what becomes of map and headers where a line writes there.
 -- Assumes nothing.
 use mathlib.Core.Path.{_≡_, refl, sym, _∙_, subst}
-use mathlib.Core.Bool.{Bool, true, false, not, _&&_, _||_, and-true, or-true}
+use mathlib.Core.Bool.{Bool, true, false, not, _&&_, _||_, and-true}
 use mathlib.Core.Logic.{_⊎_, inl, inr}
 use Prim.Native.Nat.{ℕ, zero, suc, _+_, _<_, _≤_}
 use native.Mathlib.Omega.{arith}
@@ -20,7 +20,7 @@ use Rattle.meaning.specs.declared.Found.the-variants.{Nobody, At}
 use Rattle.meaning.specs.Choosing.{lowestFree, toBlock, leastWorn, fromBlock}
 use Rattle.meaning.specs.Step.{perform}
 use Rattle.meaning.proofs.Words.{same, either, clash, and-left, and-right, or-either, by-held, none-held, free-held, held-once, nobody-free, free-none, naming-once, naming-not-none, naming-not-free, named-naming, upd-each}
-use Rattle.meaning.proofs.Invariant.{holdsH, holdsN, ownsHeaders, ownsP, ownsQ, n-on-p, n-on-q, p-free, q-free, p-headed, q-headed, p-astray, q-astray, If, leadsAstray, kept, Holds, Facts, Passes, GuardsContent, Agrees, Astray, Inv}
+use Rattle.meaning.proofs.Invariant.{takes, gives, holdsH, holdsN, ownsHeaders, ownsP, ownsQ, n-on-p, n-on-q, p-free, q-free, p-headed, q-headed, p-astray, q-astray, If, leadsAstray, kept, Holds, Facts, GuardsContent, Agrees, Astray, Inv}
 use Rattle.meaning.proofs.Keeping.{p-owned, q-owned, up, Moves}
 use Rattle.meaning.proofs.Blocks.{crowded, Finds, finds, lacks, lowest-finds, best-finds}
 
@@ -86,12 +86,6 @@ either-way true f g = f refl
 either-way false f g = g refl
 
 -- ---- what a line changes and holds next
-
-pub taking : (t w : ℕ) → free w ≡ true → Passes t w (by t)
-taking t w f = record { had = rw f; passed = inr refl }
-
-pub giving : (t w : ℕ) → heldBy t w ≡ true → Passes t w none
-giving t w h = record { had = rw h (or-true (free w)); passed = inl refl }
 
 -- what t has of an entry after it took or owned, released or let go entry i; of two blocks where it has another
 pub entry-taken : (t : ℕ) (f : ℕ → ℕ) (i k : ℕ) → heldBy t (f k) ≡ false → heldBy t (upd f i (by t) k) ≡ eqb i k
@@ -354,4 +348,4 @@ pub facts-idle : (s : Store) → 0 < s .numbers → s .numbers < s .blocks → F
 facts-idle s some more = search arith
 
 -- what proves nearly every line's part: what it takes and gives, and what it has of it next
-pub ruleset keeping = (taking, giving, by-held, none-held, entry-taken, entry-given, inl, inr)
+pub ruleset keeping = (takes, gives, same, by-held, none-held, entry-taken, entry-given, inl, inr)

@@ -5,9 +5,10 @@ use mathlib.Core.Bool.{Bool, true, false, _&&_, _||_}
 use mathlib.Core.Logic.{_⊎_, inl, inr}
 use Prim.Native.Nat.{ℕ, _+_, _-_, _<_, _≤_}
 use native.Mathlib.Omega.{arith}
-use lib.Dec.{eqb}
-use borrow.Author.Tests.{eqb-true, eqb-false, eq-eqb, ne-eqb}
+use lib.Dec.{eqb, leb}
+use borrow.Author.Tests.{leb-true, eqb-true, eqb-false, eq-eqb, ne-eqb}
 use Rattle.meaning.specs.Table.{upd}
+use Rattle.meaning.specs.Limits.{within}
 use Rattle.meaning.specs.Holding.{none, free, by, heldBy, naming, named}
 
 -- ---- tests
@@ -35,6 +36,10 @@ pub or-either : (a b : Bool) → (a || b) ≡ true → (a ≡ true) ⊎ (b ≡ t
 or-either true b e = inl refl
 or-either false b e = inr e
 
+pub within-true : (low high x : ℕ) → within low high x ≡ true → (low ≤ x) × (x ≤ high)
+within-true low high x e =
+    (leb-true low x (and-left (leb low x) _ e), leb-true x high (and-right (leb low x) _ e))
+
 -- ---- lock and owner words
 
 pub by-held : (t : ℕ) → heldBy t (by t) ≡ true
@@ -48,6 +53,9 @@ none-held v = ne-eqb 0 (v + 1) (λ e. omega arith)
 
 pub free-held : (v w : ℕ) → free w ≡ true → heldBy v w ≡ false
 free-held v w f = ne-eqb w (v + 1) (λ e. let z : w ≡ 0 = eqb-true w 0 f in omega arith)
+
+pub held-is : (t w : ℕ) → heldBy t w ≡ true → w ≡ by t
+held-is t w h = eqb-true w (t + 1) h
 
 pub held-not-free : (v w : ℕ) → heldBy v w ≡ true → free w ≡ false
 held-not-free v w h = ne-eqb w 0 (λ e. let z : w ≡ v + 1 = eqb-true w (v + 1) h in omega arith)

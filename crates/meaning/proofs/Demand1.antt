@@ -18,10 +18,11 @@ use Rattle.meaning.specs.Holding.{none, free}
 use Rattle.meaning.specs.Programs.{WRITE, LEVEL, lastLine}
 use Rattle.meaning.specs.Step.{nothing, verdict}
 use Rattle.meaning.specs.Call.{Entry, begin, step, callStore, reply, told, isIdle, begun, storedN}
-use Rattle.meaning.proofs.Words.{clash, and-left, and-right, none-held, held-by, naming-not-none}
+use Rattle.meaning.proofs.Words.{either-way, clash, and-left, and-right, none-held, held-by, naming-not-none}
 use Rattle.meaning.proofs.Invariant.{holdsH, holdsN, Holds, onLine, Stands, Inv}
 use Rattle.meaning.proofs.Keeping.{Moves, moves-inv}
-use Rattle.meaning.proofs.Lines.{Waits, for-H, for-N, Fine, Line, From, _▸_, from-at, either-way, keeping, limits-sizes, numbers-blocks, facts-idle}
+use Rattle.meaning.proofs.Sharing.{limits-sizes, numbers-blocks}
+use Rattle.meaning.proofs.Lines.{Waits, for-H, for-N, Fine, Line, From, _▸_, from-at, keeping, facts-idle}
 use Rattle.meaning.proofs.Write.{writes}
 use Rattle.meaning.proofs.Read.{reads}
 use Rattle.meaning.proofs.Unmap.{unmaps}

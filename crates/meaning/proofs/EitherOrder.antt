@@ -5,7 +5,6 @@
 -- Assumes nothing.
 use mathlib.Core.Path.{_≡_, refl, sym, ap, _∙_, subst, fun-ext}
 use mathlib.Core.Bool.{Bool, true, false, _&&_, _||_, or-true}
-use mathlib.Core.Logic.{_⊎_, inl, inr}
 use Prim.Native.Nat.{ℕ, _<_}
 use native.Mathlib.Omega.{arith}
 use lib.Dec.{eqb, ltb, leb}
@@ -29,10 +28,10 @@ use Rattle.meaning.specs.Holding.{free, by, heldBy}
 use Rattle.meaning.specs.Programs.{actAt}
 use Rattle.meaning.specs.Step.{block, setC, nothing, next, need, touches, choosing, perform, verdict, become, put, apply}
 use Rattle.meaning.specs.Call.{Reply, step, callStore, told, reply, isIdle}
-use Rattle.meaning.proofs.Words.{by-held, clash, and-left, and-right, or-either, by-other, held-once, held-not-free, upd-same, upd-other, upd-each}
+use Rattle.meaning.proofs.Words.{either-way, by-held, clash, and-left, and-right, or-way, by-other, held-once, held-not-free, upd-same, upd-other, upd-each}
 use Rattle.meaning.proofs.Invariant.{takesH, takesN, takesLock, holdsH, holdsN, ownsHeaders, ownsP, Passes, takes, gives, Changes, Puts, Guards, GuardsMap, GuardsHeader, GuardsContent, GuardsWear, Inv}
 use Rattle.meaning.proofs.Keeping.{everyLine, everywhere, standing, p-owned, Moves, moves-inv, word-kept, entry-kept, map-kept, header-kept, wear-kept, content-kept}
-use Rattle.meaning.proofs.Lines.{Fine, either-way}
+use Rattle.meaning.proofs.Lines.{Fine}
 use Rattle.meaning.proofs.Demand1.{fine, no-fault, CanStep}
 
 -- ---- what is said
@@ -172,74 +171,74 @@ module _ (s : Store) (I : Inv s) (t : ℕ) (r′ : Thread) (e : Effect) (M : Mov
       other : eqb t u ≡ false
       other = ne-eqb t u apart
 
--- ---- two effects that change no common word
-
--- no entry that the one puts is put by the other
-abbrev Apart : Entry → Entry → Type 0
-Apart c d = Puts c (λ i _. Puts d (λ j _. i ≡ j → ⊥))
-
-abbrev ApartWords : Word → Word → Type 0
-ApartWords c d = Changes c (λ _. Changes d (λ _. ⊥))
-
-becomes-commute : (c d : Word) (w : ℕ) → ApartWords c d → become d (become c w) ≡ become c (become d w)
-becomes-commute Stay d w x = refl
-becomes-commute (Become v) Stay w x = refl
-becomes-commute (Become v) (Become v′) w x = absurd x
+-- ---- two threads' effects change no common word
 
 upds-commute : {A : Type 0} (f : ℕ → A) (i j : ℕ) (v w : A) → (i ≡ j → ⊥) → upd (upd f i v) j w ≡ upd (upd f j w) i v
-upds-commute f i j v w apart = fun-ext (λ k. upd-each (λ k x. x ≡ upd (upd f j w) i v k) (upd f i v) j w
-    (sym (upd-other (upd f j w) i j v apart ∙ upd-same f j w)) (λ k others. rest k others) k)
-  where
-    rest : (k : ℕ) → (j ≡ k → ⊥) → upd f i v k ≡ upd (upd f j w) i v k
-    rest k others = rw (ne-eqb j k others)
-
-puts-commute : (c d : Entry) (f : ℕ → ℕ) → Apart c d → put d (put c f) ≡ put c (put d f)
-puts-commute Keep d f x = refl
-puts-commute (Put i v) Keep f x = refl
-puts-commute (Put i v) (Put j w) f x = upds-commute f i j v w x
-
--- ---- two threads' effects
+upds-commute f i j v w apart =
+    fun-ext (upd-each (λ k x. x ≡ upd (upd f j w) i v k) (upd f i v) j w
+    (sym (upd-other (upd f j w) i j v apart ∙ upd-same f j w)) (λ k others. rw (ne-eqb j k others)))
 
 module _ (t u : ℕ) (apart : t ≡ u → ⊥) where
-  -- no word passes from both
+  -- no word passes from both: a, b and b′ are what they were about to take
   passes-apart : {a b b′ : Type 0} (w v v′ : ℕ) → Passes a t w v → Passes b u w v′ → Passes b′ u v v′ → ⊥
   passes-apart w v v′ (takes f _ e) y (takes g _ _) = clash g (rw e (held-not-free t (by t) (by-held t)))
   passes-apart w v v′ (takes f _ e) y (gives h _) = clash h (rw e (by-other t u apart))
   passes-apart w v v′ (gives h _) (takes f _ _) z = clash f (held-not-free t w h)
   passes-apart w v v′ (gives h _) (gives g _) z = apart (held-once t u w h g)
 
-  words-apart : (a b : Type 0) (c d : Word) (w : ℕ) → Changes c (Passes a t w) → Changes d (Passes b u w) → Changes d (Passes b u (become c w)) → ApartWords c d
-  words-apart a b Stay d w x y z = tt
-  words-apart a b (Become v) Stay w x y z = tt
-  words-apart a b (Become v) (Become v′) w x y z = passes-apart w v v′ x y z
+  words-commute : (a b : Type 0) (c d : Word) (w : ℕ) → Changes c (Passes a t w) → Changes d (Passes b u w) →
+      Changes d (Passes b u (become c w)) → become d (become c w) ≡ become c (become d w)
+  words-commute a b Stay d w x y z = refl
+  words-commute a b (Become v) Stay w x y z = refl
+  words-commute a b (Become v) (Become v′) w x y z = absurd (passes-apart w v v′ x y z)
 
-  entries-apart : (a b : ℕ → Type 0) (c d : Entry) (f : ℕ → ℕ) → Puts c (λ k. Passes (a k) t (f k)) → Puts d (λ k. Passes (b k) u (f k)) → Puts d (λ k. Passes (b k) u (put c f k)) → Apart c d
-  entries-apart a b Keep d f x y z = tt
-  entries-apart a b (Put i v) Keep f x y z = tt
-  entries-apart a b (Put i v) (Put j w) f x y z =
-      λ e. passes-apart (f i) v w x (subst (λ (k : ℕ). Passes (b k) u (f k) w) (sym e) y) (rw (eq-eqb i j e) at z)
+  entries-commute : (a b : ℕ → Type 0) (c d : Entry) (f : ℕ → ℕ) → Puts c (λ k. Passes (a k) t (f k)) →
+      Puts d (λ k. Passes (b k) u (f k)) → Puts d (λ k. Passes (b k) u (put c f k)) → put d (put c f) ≡ put c (put d f)
+  entries-commute a b Keep d f x y z = refl
+  entries-commute a b (Put i v) Keep f x y z = refl
+  entries-commute a b (Put i v) (Put j w) f x y z =
+      upds-commute f i j v w
+      (λ e. passes-apart (f i) v w x (subst (λ (k : ℕ). Passes (b k) u (f k) w) (sym e) y) (rw (eq-eqb i j e) at z))
 
-  tables-apart : (c d : Entry) (g h : ℕ → Type 0) → Puts c (λ k _. g k) → Puts d (λ k _. h k) → ((k : ℕ) → g k → h k → ⊥) → Apart c d
-  tables-apart Keep d g h x y both = tt
-  tables-apart (Put i v) Keep g h x y both = tt
-  tables-apart (Put i v) (Put j w) g h x y both = λ e. both i x (subst h (sym e) y)
+  -- g and h guard the entries, and nobody has both
+  tables-commute : (g h : ℕ → Type 0) → ((k : ℕ) → g k → h k → ⊥) → (c d : Entry) (f : ℕ → ℕ) → Puts c (λ k _. g k) →
+      Puts d (λ k _. h k) → put d (put c f) ≡ put c (put d f)
+  tables-commute g h both Keep d f x y = refl
+  tables-commute g h both (Put i v) Keep f x y = refl
+  tables-commute g h both (Put i v) (Put j w) f x y = upds-commute f i j v w (λ e. both i x (subst h (sym e) y))
 
-  applies-commute : (s : Store) (r q r′ q′ : Thread) (c d : Effect) → Guards s t r c → Guards s u q d → Guards (apply s t r′ c) u q d → apply (apply s t r′ c) u q′ d ≡ apply (apply s u q′ d) t r′ c
+  applies-commute : (s : Store) (r q r′ q′ : Thread) (c d : Effect) → Guards s t r c → Guards s u q d →
+      Guards (apply s t r′ c) u q d → apply (apply s t r′ c) u q′ d ≡ apply (apply s u q′ d) t r′ c
   applies-commute s r q r′ q′ c d G K L =
+      let H-once : heldBy t (s .lock) ≡ true → heldBy u (s .lock) ≡ true → ⊥ = λ x y. apart (held-once t u (s .lock) x y) in
+      let headers-once : heldBy t (s .owner) ≡ true → heldBy u (s .owner) ≡ true → ⊥ =
+      λ x y. apart (held-once t u (s .owner) x y) in
+      let block-once : (m : ℕ) → heldBy t (s .own m) ≡ true → heldBy u (s .own m) ≡ true → ⊥ =
+      λ m x y. apart (held-once t u (s .own m) x y) in
       λ i. record {
         threads = s .threads;
         numbers = s .numbers;
         blocks = s .blocks;
         distance = s .distance;
-        lock = becomes-commute (c .lock) (d .lock) (s .lock) (words-apart (takesH r ≡ true) (takesH q ≡ true) (c .lock) (d .lock) (s .lock) (G .lock) (K .lock) (L .lock)) i;
-        owner = becomes-commute (c .owner) (d .owner) (s .owner) (words-apart Unit Unit (c .owner) (d .owner) (s .owner) (G .owner) (K .owner) (L .owner)) i;
+        lock = words-commute (takesH r ≡ true) (takesH q ≡ true) (c .lock) (d .lock) (s .lock) (G .lock) (K .lock) (L .lock) i;
+        owner = words-commute Unit Unit (c .owner) (d .owner) (s .owner) (G .owner) (K .owner) (L .owner) i;
         thread = upds-commute (s .thread) t u r′ q′ apart i;
-        map = puts-commute (c .map) (d .map) (s .map) (tables-apart (c .map) (d .map) (GuardsMap s t) (GuardsMap s u) (G .map) (K .map) (λ k x y. apart (held-once t u (s .owner) (x .owner) (y .owner)))) i;
-        locks = puts-commute (c .locks) (d .locks) (s .locks) (entries-apart (λ k. takesLock r k ≡ true) (λ k. takesLock q k ≡ true) (c .locks) (d .locks) (s .locks) (G .locks) (K .locks) (L .locks)) i;
-        header = puts-commute (c .header) (d .header) (s .header) (tables-apart (c .header) (d .header) (GuardsHeader s t) (GuardsHeader s u) (G .header) (K .header) (λ m x y. apart (held-once t u (s .owner) (x .owner) (y .owner)))) i;
-        content = puts-commute (c .content) (d .content) (s .content) (tables-apart (c .content) (d .content) (GuardsContent s t) (GuardsContent s u) (G .content) (K .content) (λ m x y. apart (held-once t u (s .own m) (x .own) (y .own)))) i;
-        wear = puts-commute (c .wear) (d .wear) (s .wear) (tables-apart (c .wear) (d .wear) (GuardsWear s t) (GuardsWear s u) (G .wear) (K .wear) (λ m x y. apart (held-once t u (s .lock) (x .lock) (y .lock)))) i;
-        own = puts-commute (c .own) (d .own) (s .own) (entries-apart (λ m. Unit) (λ m. Unit) (c .own) (d .own) (s .own) (G .own) (K .own) (L .own)) i;
+        map =
+            tables-commute (GuardsMap s t) (GuardsMap s u) (λ k x y. headers-once (x .owner) (y .owner)) (c .map) (d .map) (s .map)
+            (G .map) (K .map) i;
+        locks =
+            entries-commute (λ k. takesLock r k ≡ true) (λ k. takesLock q k ≡ true) (c .locks) (d .locks) (s .locks)
+            (G .locks) (K .locks) (L .locks) i;
+        header =
+            tables-commute (GuardsHeader s t) (GuardsHeader s u) (λ m x y. headers-once (x .owner) (y .owner)) (c .header)
+            (d .header) (s .header) (G .header) (K .header) i;
+        content =
+            tables-commute (GuardsContent s t) (GuardsContent s u) (λ m x y. block-once m (x .own) (y .own)) (c .content)
+            (d .content) (s .content) (G .content) (K .content) i;
+        wear =
+            tables-commute (GuardsWear s t) (GuardsWear s u) (λ m x y. H-once (x .lock) (y .lock)) (c .wear) (d .wear) (s .wear)
+            (G .wear) (K .wear) i;
+        own = entries-commute (λ m. Unit) (λ m. Unit) (c .own) (d .own) (s .own) (G .own) (K .own) (L .own) i;
       }
 
 -- ---- a step that goes
@@ -327,16 +326,17 @@ module _ (s : Store) (I : Inv s) (t u : ℕ) (apart : t ≡ u → ⊥) (others :
 -- ---- either order
 
 sameTake-sym : (r q : Thread) → sameTake r q ≡ false → sameTake q r ≡ false
-sameTake-sym r q x = either-way (sameTake q r) (λ y. clash (back (or-either (takesH q && takesH r) _ y)) x) (λ y. y)
-  where
-    back : ((takesH q && takesH r) ≡ true) ⊎ ((takesN r && takesLock q (r .n)) ≡ true) → sameTake r q ≡ true
-    back (inl y) = rw (and-left (takesH q) _ y, and-right (takesH q) (takesH r) y)
-    back (inr y) =
-        let n : takesN r ≡ true = and-left (takesN r) _ y in
-        let z : takesLock q (r .n) ≡ true = and-right (takesN r) _ y in
-        let m : takesN q ≡ true = and-left (takesN q) _ z in
-        let w : q .n ≡ r .n = eqb-true (q .n) (r .n) (and-right (takesN q) _ z) in
-        rw (n, m, eq-eqb (r .n) (q .n) (sym w)) (or-true (takesH r && takesH q))
+sameTake-sym r q x =
+    either-way (sameTake q r)
+    (λ y. clash (or-way (takesH q && takesH r) (takesN r && takesLock q (r .n)) y
+    (λ z. rw (and-left (takesH q) _ z, and-right (takesH q) (takesH r) z))
+    (λ z.
+    let n : takesN r ≡ true = and-left (takesN r) _ z in
+    let l : takesLock q (r .n) ≡ true = and-right (takesN r) _ z in
+    let m : takesN q ≡ true = and-left (takesN q) _ l in
+    let e : q .n ≡ r .n = eqb-true (q .n) (r .n) (and-right (takesN q) _ l) in
+    rw (n, m, eq-eqb (r .n) (q .n) (sym e)) (or-true (takesH r && takesH q)))) x)
+    (λ y. y)
 
 pub either-order : (s : Store) → Inv s → (t u : ℕ) → (t ≡ u → ⊥) → CanStep s t → CanStep s u → sameTake (s .thread t) (s .thread u) ≡ false → Swaps s t u
 either-order s I t u apart steps steps′ others =

@@ -282,6 +282,10 @@ pub record Agrees (map header : ℕ → ℕ) (numbers blocks : ℕ) : Type 0 whe
   pub map-below : (k : ℕ) → map k ≤ blocks
   pub header-below : (m : ℕ) → header m ≤ numbers
 
+-- a header that points from block m to number k points back: k is mapped to m, or the block is astray
+abbrev pub Back : (ℕ → ℕ) → ℕ → ℕ → Type 0 → Type 0
+Back map m k astray = (map k ≡ naming m) ⊎ astray
+
 -- some thread leads block m astray
 pub record Astray (s : Store) (m : ℕ) : Type 0 where
   pub who : ℕ
@@ -297,4 +301,4 @@ pub record Inv (s : Store) : Type 0 where
   pub facts : (v : ℕ) → Facts s (s .thread v)
   pub agrees : Agrees (s .map) (s .header) (s .numbers) (s .blocks)
   -- a header points to a number that is mapped to its block, unless the block is astray
-  pub mapped : (m k : ℕ) → s .header m ≡ naming k → (s .map k ≡ naming m) ⊎ Astray s m
+  pub mapped : (m k : ℕ) → s .header m ≡ naming k → Back (s .map) m k (Astray s m)

@@ -3,8 +3,8 @@
 -- a kind of fact is enough, and no two lines or acts are compared.
 -- Assumes nothing.
 use mathlib.Core.Path.{_≡_, refl, sym, _∙_, subst, fun-ext}
-use mathlib.Core.Bool.{Bool, true, false, not, cond, _&&_, _||_, or-true}
-use mathlib.Core.Logic.{_⊎_, inl, inr}
+use mathlib.Core.Bool.{Bool, true, false, not, _&&_, _||_, or-true}
+use mathlib.Core.Logic.{inl, inr}
 use Prim.Native.Nat.{ℕ, zero, suc, _+_, _-_, _<_, _≤_}
 use native.Mathlib.Omega.{arith}
 use lib.Dec.{eqb}
@@ -21,8 +21,8 @@ use Rattle.meaning.specs.Store.{Store, idle}
 use Rattle.meaning.specs.Holding.{free, heldBy, naming, named}
 use Rattle.meaning.specs.Programs.{WRITE, LEVEL, lastLine}
 use Rattle.meaning.specs.Step.{become, put, apply}
-use Rattle.meaning.proofs.Words.{same, either, and-left, and-right, or-either, within-true, by-other, none-held, free-held, held-is, held-once, naming-named, upd-other, upd-each}
-use Rattle.meaning.proofs.Invariant.{takesH, takesLock, takes, gives, holdsH, holdsN, ownsHeaders, ownsP, ownsQ, n-unmapped, n-on-p, n-on-q, p-free, q-free, p-headed, q-headed, h-heads-p, chosen-now, c-of-p, q-has-c, c-of-n, If, ownsBlock, leadsAstray, Holds, kept, Facts, Stands, Changes, Puts, Passes, GuardsMap, GuardsHeader, GuardsContent, GuardsWear, Guards, Agrees, Astray, Inv}
+use Rattle.meaning.proofs.Words.{same, either-way, and-left, and-right, or-way, within-true, by-other, none-held, free-held, held-is, held-once, naming-named, upd-other, upd-each}
+use Rattle.meaning.proofs.Invariant.{takesH, takesLock, takes, gives, holdsH, holdsN, ownsHeaders, ownsP, ownsQ, n-unmapped, n-on-p, n-on-q, p-free, q-free, p-headed, q-headed, h-heads-p, chosen-now, c-of-p, q-has-c, c-of-n, If, ownsBlock, leadsAstray, Holds, kept, Facts, Stands, Changes, Puts, Passes, GuardsMap, GuardsHeader, GuardsContent, GuardsWear, Guards, Agrees, Back, Astray, Inv}
 
 -- ---- a rule of the table, tested at every line
 
@@ -36,11 +36,8 @@ everyLine test = test 0 0 && every LEVEL (λ k. every (lastLine (k + 1)) (λ l. 
 every-at : (k : ℕ) (test : ℕ → Bool) → every k test ≡ true → (l : ℕ) → l < k → test l ≡ true
 every-at zero test all l below = absurd (omega arith)
 every-at (suc k) test all l below =
-    go (λ b. every-at k test (and-left (every k test) (test k) all) l b) (either (eqb l k))
-  where
-    go : (l < k → test l ≡ true) → (eqb l k ≡ true) ⊎ (eqb l k ≡ false) → test l ≡ true
-    go rest (inl e) = rw (eqb-true l k e) (and-right (every k test) (test k) all)
-    go rest (inr e) = let apart : l ≡ k → ⊥ = eqb-false l k e in rest (omega arith)
+    either-way (eqb l k) (λ e. rw (eqb-true l k e) (and-right (every k test) (test k) all))
+    (λ e. let apart : l ≡ k → ⊥ = eqb-false l k e in every-at k test (and-left (every k test) (test k) all) l (omega arith))
 
 pub everywhere : (test : ℕ → ℕ → Bool) → everyLine test ≡ true → (r : Thread) → Stands r → test (r .op) (r .line) ≡ true
 everywhere test all r (inl i) = rw i (and-left (test 0 0) _ all)
@@ -49,15 +46,16 @@ everywhere test all r (inr o) =
     let line = within-true 1 (lastLine (r .op)) (r .line) (and-right (within WRITE LEVEL (r .op)) _ o) in
     let op-is : r .op - 1 + 1 ≡ r .op = omega arith in
     let line-is : r .line - 1 + 1 ≡ r .line = omega arith in
-    let each : every (lastLine (r .op)) (λ l. test (r .op) (l + 1)) ≡ true =
-    rw op-is at (every-at LEVEL (λ k. every (lastLine (k + 1)) (λ l. test (k + 1) (l + 1))) (and-right (test 0 0) _ all) (r .op - 1) (omega arith)) in
-    rw line-is at (every-at (lastLine (r .op)) (λ l. test (r .op) (l + 1)) each (r .line - 1) (omega arith))
+    let each =
+    every-at LEVEL (λ k. every (lastLine (k + 1)) (λ l. test (k + 1) (l + 1))) (and-right (test 0 0) _ all) (r .op - 1) (omega arith) in
+    rw line-is at (every-at (lastLine (r .op)) (λ l. test (r .op) (l + 1)) (rw op-is at each) (r .line - 1) (omega arith))
 
 -- where the one flag is up, so is the other
 abbrev pub implies : (Thread → Bool) → (Thread → Bool) → Bool
 implies a b = everyLine (λ op line. not (a (standing op line)) || b (standing op line))
 
-pub up : (a b : Thread → Bool) → implies a b ≡ true → (r : Thread) → Stands r → a (standing (r .op) (r .line)) ≡ true → b (standing (r .op) (r .line)) ≡ true
+pub up : (a b : Thread → Bool) → implies a b ≡ true → (r : Thread) → Stands r →
+    a (standing (r .op) (r .line)) ≡ true → b (standing (r .op) (r .line)) ≡ true
 up a b all r st x = rw x at (everywhere (λ op line. not (a (standing op line)) || b (standing op line)) all r st)
 
 -- ---- words and tables that another thread keeps
@@ -66,17 +64,20 @@ passes-other : {about : Type 0} (t v w w′ : ℕ) → (t ≡ v → ⊥) → Pas
 passes-other t v w w′ apart (takes f _ e) = rw e (by-other t v apart ∙ sym (free-held v w f))
 passes-other t v w w′ apart (gives h e) = rw (e, held-is t w h) (none-held v ∙ sym (by-other t v apart))
 
-pub word-kept : (about : Type 0) (t v : ℕ) → (t ≡ v → ⊥) → (c : Word) (w : ℕ) → Changes c (Passes about t w) → heldBy v (become c w) ≡ heldBy v w
+pub word-kept : (about : Type 0) (t v : ℕ) → (t ≡ v → ⊥) → (c : Word) (w : ℕ) →
+    Changes c (Passes about t w) → heldBy v (become c w) ≡ heldBy v w
 word-kept about t v apart Stay w x = refl
 word-kept about t v apart (Become w′) w x = passes-other t v w w′ apart x
 
-pub entry-kept : (about : ℕ → Type 0) (t v : ℕ) → (t ≡ v → ⊥) → (c : Entry) (f : ℕ → ℕ) → Puts c (λ k. Passes (about k) t (f k)) → (k : ℕ) → heldBy v (put c f k) ≡ heldBy v (f k)
+pub entry-kept : (about : ℕ → Type 0) (t v : ℕ) → (t ≡ v → ⊥) → (c : Entry) (f : ℕ → ℕ) →
+    Puts c (λ k. Passes (about k) t (f k)) → (k : ℕ) → heldBy v (put c f k) ≡ heldBy v (f k)
 entry-kept about t v apart Keep f x k = refl
 entry-kept about t v apart (Put i w) f x k =
     upd-each (λ k y. heldBy v y ≡ heldBy v (f k)) f i w (passes-other t v (f i) w apart x) (λ k _. refl) k
 
 -- an entry whose guard its writer can't have stays as it was
-put-kept : (c : Entry) (f : ℕ → ℕ) (guard : ℕ → ℕ → Type 0) → Puts c guard → (k : ℕ) → ((w : ℕ) → guard k w → ⊥) → put c f k ≡ f k
+put-kept : (c : Entry) (f : ℕ → ℕ) (guard : ℕ → ℕ → Type 0) → Puts c guard → (k : ℕ) →
+    ((w : ℕ) → guard k w → ⊥) → put c f k ≡ f k
 put-kept Keep f guard g k lacks = refl
 put-kept (Put i w) f guard g k lacks = upd-other f i k w (λ e. lacks w (subst (λ (j : ℕ). guard j w) e g))
 
@@ -86,7 +87,7 @@ where-up true A f = f refl
 where-up false A f = tt
 
 -- a thread that knows a map entry holds the number's lock or owns the headers
-abbrev reads-map : Thread → Bool
+abbrev pub reads-map : Thread → Bool
 reads-map r = holdsN r || ownsHeaders r
 
 pub p-owned : (r : Thread) → ownsP r ≡ true → ownsBlock r (r .p) ≡ true
@@ -107,21 +108,18 @@ module _ (s : Store) (I : Inv s) (t : ℕ) (r : Thread) (e : Effect) (G : Guards
 
   locks-lacks : holdsN (s .thread v) ≡ true → heldBy t (s .locks (s .thread v .n)) ≡ true → ⊥
   locks-lacks x h =
-      let mine : heldBy v (s .locks (s .thread v .n)) ≡ true = I .holds v .locks (s .thread v .n) ∙ rw (x, same (s .thread v .n)) in
-      apart (held-once t v (s .locks (s .thread v .n)) h mine)
+      let k = s .thread v .n in
+      let mine : heldBy v (s .locks k) ≡ true = I .holds v .locks k ∙ rw (x, same k) in
+      apart (held-once t v (s .locks k) h mine)
 
   own-lacks : (m : ℕ) → ownsBlock (s .thread v) m ≡ true → heldBy t (s .own m) ≡ true → ⊥
   own-lacks m x h = apart (held-once t v (s .own m) h (I .holds v .own m ∙ x))
 
   -- so what v knows stays
-  pub map-kept : (holdsN (s .thread v) || ownsHeaders (s .thread v)) ≡ true → put (e .map) (s .map) (s .thread v .n) ≡ s .map (s .thread v .n)
+  pub map-kept : reads-map (s .thread v) ≡ true → put (e .map) (s .map) (s .thread v .n) ≡ s .map (s .thread v .n)
   map-kept x =
       put-kept (e .map) (s .map) (λ k w. GuardsMap s t k) (G .map) (s .thread v .n)
-      (λ w g. lacks g (or-either (holdsN (s .thread v)) (ownsHeaders (s .thread v)) x))
-    where
-      lacks : GuardsMap s t (s .thread v .n) → (holdsN (s .thread v) ≡ true) ⊎ (ownsHeaders (s .thread v) ≡ true) → ⊥
-      lacks g (inl y) = locks-lacks y (g .locks)
-      lacks g (inr y) = owner-lacks y (g .owner)
+      (λ w g. or-way (holdsN (s .thread v)) (ownsHeaders (s .thread v)) x (λ y. locks-lacks y (g .locks)) (λ y. owner-lacks y (g .owner)))
 
   pub header-kept : ownsHeaders (s .thread v) ≡ true → put (e .header) (s .header) ≡ s .header
   header-kept x =
@@ -137,16 +135,13 @@ module _ (s : Store) (I : Inv s) (t : ℕ) (r : Thread) (e : Effect) (G : Guards
 
   seen-kept : (r′ : Thread) → holdsN (s .thread v) ≡ true → kept (apply s t r′ e) (s .thread v .n) ≡ kept s (s .thread v .n)
   seen-kept r′ x =
-      rw (map-kept (rw x)) (go (either (free (s .map (s .thread v .n)))))
-    where
-      go : (free (s .map (s .thread v .n)) ≡ true) ⊎ (free (s .map (s .thread v .n)) ≡ false) → cond (free (s .map (s .thread v .n))) 0 (put (e .content) (s .content) (named (s .map (s .thread v .n)))) ≡ kept s (s .thread v .n)
-      go (inl f) = rw f
-      go (inr f) =
-          rw (
-            f,
-            put-kept (e .content) (s .content) (λ m w. GuardsContent s t m) (G .content) (named (s .map (s .thread v .n)))
-                (λ w g. locks-lacks x (g .locks (s .thread v .n) (naming-named (s .map (s .thread v .n)) f))),
-          )
+      let k = s .thread v .n in
+      rw (map-kept (rw x)) (either-way (free (s .map k)) (λ f. rw f)
+      (λ f. rw (
+        f,
+        put-kept (e .content) (s .content) (λ m w. GuardsContent s t m) (G .content) (named (s .map k))
+            (λ w g. locks-lacks x (g .locks k (naming-named (s .map k) f))),
+      )))
 
   holds-kept : (r′ : Thread) → Holds (apply s t r′ e) v (s .thread v)
   holds-kept r′ =
@@ -203,28 +198,30 @@ pub record Moves (s : Store) (t : ℕ) (r r′ : Thread) (e : Effect) : Type 0 w
   pub facts : Facts (apply s t r′ e) r′
   pub agrees : Agrees (put (e .map) (s .map)) (put (e .header) (s .header)) (s .numbers) (s .blocks)
   -- a header that pointed to its number, or was t's own astray, does so afterwards
-  pub mapped : (m k : ℕ) → put (e .header) (s .header) m ≡ naming k → (s .header m ≡ naming k → (s .map k ≡ naming m) ⊎ (leadsAstray r m ≡ true)) → (put (e .map) (s .map) k ≡ naming m) ⊎ (leadsAstray r′ m ≡ true)
+  pub mapped : (m k : ℕ) → put (e .header) (s .header) m ≡ naming k →
+      (s .header m ≡ naming k → Back (s .map) m k (leadsAstray r m ≡ true)) → Back (put (e .map) (s .map)) m k (leadsAstray r′ m ≡ true)
 
 module _ (s : Store) (I : Inv s) (t : ℕ) (r′ : Thread) (e : Effect) (M : Moves s t (s .thread t) r′ e) where
-  mapped-kept : (m k : ℕ) → put (e .header) (s .header) m ≡ naming k → (put (e .map) (s .map) k ≡ naming m) ⊎ Astray (apply s t r′ e) m
-  mapped-kept m k x = go (either (eqb (s .header m) (naming k)))
+  mapped-kept : (m k : ℕ) → put (e .header) (s .header) m ≡ naming k →
+      Back (put (e .map) (s .map)) m k (Astray (apply s t r′ e) m)
+  mapped-kept m k x =
+      either-way (eqb (s .header m) (naming k)) (λ y. old (I .mapped m k (eqb-true (s .header m) (naming k) y)))
+      (λ y. mine (λ z. absurd (eqb-false (s .header m) (naming k) y z)))
     where
       -- t's own part
-      mine : (put (e .map) (s .map) k ≡ naming m) ⊎ (leadsAstray r′ m ≡ true) → (put (e .map) (s .map) k ≡ naming m) ⊎ Astray (apply s t r′ e) m
-      mine (inl y) = inl y
-      mine (inr y) = inr (record { who = t; leads = rw (same t) y })
+      after : Back (put (e .map) (s .map)) m k (leadsAstray r′ m ≡ true) → Back (put (e .map) (s .map)) m k (Astray (apply s t r′ e) m)
+      after (inl y) = inl y
+      after (inr y) = inr (record { who = t; leads = rw (same t) y })
 
-      another : (v : ℕ) → leadsAstray (s .thread v) m ≡ true → (eqb t v ≡ true) ⊎ (eqb t v ≡ false) → (put (e .map) (s .map) k ≡ naming m) ⊎ Astray (apply s t r′ e) m
-      another v a (inl y) = mine (M .mapped m k x (λ _. inr (rw (eqb-true t v y) a)))
-      another v a (inr y) = inr (record { who = v; leads = rw y a })
+      mine : (s .header m ≡ naming k → Back (s .map) m k (leadsAstray (s .thread t) m ≡ true)) →
+          Back (put (e .map) (s .map)) m k (Astray (apply s t r′ e) m)
+      mine was = after (M .mapped m k x was)
 
-      old : (s .map k ≡ naming m) ⊎ Astray s m → (put (e .map) (s .map) k ≡ naming m) ⊎ Astray (apply s t r′ e) m
-      old (inl y) = mine (M .mapped m k x (λ _. inl y))
-      old (inr a) = another (a .who) (a .leads) (either (eqb t (a .who)))
-
-      go : (eqb (s .header m) (naming k) ≡ true) ⊎ (eqb (s .header m) (naming k) ≡ false) → (put (e .map) (s .map) k ≡ naming m) ⊎ Astray (apply s t r′ e) m
-      go (inl y) = old (I .mapped m k (eqb-true (s .header m) (naming k) y))
-      go (inr y) = mine (M .mapped m k x (λ z. absurd (eqb-false (s .header m) (naming k) y z)))
+      old : Back (s .map) m k (Astray s m) → Back (put (e .map) (s .map)) m k (Astray (apply s t r′ e) m)
+      old (inl y) = mine (λ _. inl y)
+      old (inr a) =
+          either-way (eqb t (a .who)) (λ y. mine (λ _. inr (rw (eqb-true t (a .who) y) (a .leads))))
+          (λ y. inr (record { who = a .who; leads = rw y (a .leads) }))
 
   pub moves-inv : t < s .threads → Inv (apply s t r′ e)
   moves-inv below =

@@ -1,9 +1,8 @@
 -- The lines of level.
 -- Assumes nothing.
-use mathlib.Core.Path.{_≡_, refl, sym, ap, _∙_, subst}
-use mathlib.Core.Bool.{true, false, _||_, or-false}
+use mathlib.Core.Path.{_≡_, refl, sym, _∙_}
+use mathlib.Core.Bool.{false, _||_, or-false}
 use Prim.Native.Nat.{ℕ, _<_}
-use native.Mathlib.Omega.{arith}
 use lib.Dec.{eqb}
 use borrow.Author.Tests.{eqb-true, eq-eqb, ne-eqb}
 use Rattle.meaning.specs.Store.{Store}
@@ -12,8 +11,9 @@ use Rattle.meaning.specs.Choosing.{toBlock}
 use Rattle.meaning.specs.declared.Found.the-variants.{At}
 use Rattle.meaning.specs.Programs.{LEVEL, actAt}
 use Rattle.meaning.specs.Step.{perform}
-use Rattle.meaning.proofs.Words.{same, naming-named, named-below, naming-not-free, naming-once, upd-same, upd-other}
-use Rattle.meaning.proofs.Lines.{for-H, for-N, Fine, at, Line, From, _▸_, n-held, p-held, q-held, either-way, second-taken, second-given, mapped-headed, mapped-freed, mapped-map, agrees-map, headed-apart, owner-free, mapped-block-free, free-block-free, headed-agrees, freed-agrees, settled-owner, numbers-blocks, to-found, from-below, content-guarded, facts-idle, keeping}
+use Rattle.meaning.proofs.Words.{either-way, same, naming-named, named-below, naming-not-free, naming-once, upd-same, upd-other}
+use Rattle.meaning.proofs.Sharing.{owner-free, mapped-block-free, free-block-free, settled-owner, numbers-blocks, to-found, from-below, content-guarded}
+use Rattle.meaning.proofs.Lines.{for-H, for-N, Fine, at, Line, From, _▸_, n-held, p-held, q-held, second-taken, second-given, mapped-headed, mapped-freed, headed-apart, headed-agrees, freed-agrees, moved-agrees, moved-mapped, facts-idle, keeping}
 
 module _ (s : Store) (t : ℕ) where
   L1 : Line s t LEVEL 1
@@ -89,10 +89,11 @@ module _ (s : Store) (t : ℕ) where
   L12 : Line s t LEVEL 12
   L12 n c p q h H =
       let lock = n-held H refl in
-      let headed : (m : ℕ) → q ≡ m → s .header m ≡ naming n = λ m e. subst (λ (m : ℕ). s .header m ≡ naming n) e (H .facts .headed-q) in
-      let here : (m : ℕ) → (eqb q m || false) ≡ true → q ≡ m = λ m x. eqb-true q m (rw (or-false (eqb q m)) at x) in
-      let agrees = agrees-map (s .map) (s .header) (s .numbers) (s .blocks) n (naming q) (H .inv .agrees) (λ m e. headed m (naming-once q m e)) (omega arith) in
-      let mapped = mapped-map (s .map) (s .header) n (naming q) (λ m. eqb q m || false) (λ m. eqb p m) (λ m on. eq-eqb p m (naming-once p m (sym (H .facts .on-p) ∙ on))) (λ m x. headed m (here m x)) (λ m x. ap naming (here m x)) in
+      let agrees = moved-agrees s (H .inv) n q (H .facts .headed-q) (H .facts .q-below) in
+      let mapped =
+      moved-mapped s n q (H .facts .headed-q) (λ m. eqb q m || false) (λ m. eqb p m)
+      (λ m x. eqb-true q m (rw (or-false (eqb q m)) at x))
+      (λ m on. eq-eqb p m (naming-once p m (sym (H .facts .on-p) ∙ on))) in
       let on = upd-same (s .map) n (naming q) in
       search (keeping, mapped, H .holds .locks, H .holds .own)
 

@@ -3,6 +3,7 @@ pub mod Words
 pub mod Invariant
 pub mod Keeping
 pub mod Blocks
+pub mod Sharing
 pub mod Lines
 pub mod Write
 pub mod Read

@@ -5,9 +5,10 @@ use Prim.Native.Nat.{ℕ}
 use Rattle.meaning.specs.Store.{Store}
 use Rattle.meaning.specs.Holding.{free}
 use Rattle.meaning.specs.Programs.{READ}
-use Rattle.meaning.proofs.Words.{naming-named, named-below, naming-not-free}
+use Rattle.meaning.proofs.Words.{either-way, naming-not-free}
 use Rattle.meaning.proofs.Invariant.{kept}
-use Rattle.meaning.proofs.Lines.{for-N, Line, From, _▸_, n-held, p-held, either-way, mapped-block-free, numbers-blocks, kept-on, facts-idle, keeping}
+use Rattle.meaning.proofs.Sharing.{mapped-block-free, numbers-blocks}
+use Rattle.meaning.proofs.Lines.{for-N, Line, From, _▸_, n-held, p-held, looked-up, kept-on, facts-idle, keeping}
 
 module _ (s : Store) (t : ℕ) where
   R1 : Line s t READ 1
@@ -18,7 +19,7 @@ module _ (s : Store) (t : ℕ) where
   R2 n c p q h H =
       either-way (free (s .map n))
       (λ f. let empty : 0 ≡ kept s n = rw f in rw f (search (keeping, H .holds .locks, H .holds .own)))
-      (λ f. rw f (let u = naming-named (s .map n) f in let b = named-below (s .map n) (s .blocks) f (H .inv .agrees .map-below n) in search (keeping, H .holds .locks, H .holds .own)))
+      (λ f. rw f (let u = looked-up s (H .inv) n f in search (keeping, H .holds .locks, H .holds .own)))
 
   R3 : Line s t READ 3
   R3 n c p q h H =

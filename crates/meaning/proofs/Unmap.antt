@@ -1,16 +1,13 @@
 -- The lines of unmap.
 -- Assumes nothing.
-use mathlib.Core.Path.{refl, sym, _∙_}
-use mathlib.Core.Bool.{false}
+use mathlib.Core.Path.{refl}
 use Prim.Native.Nat.{ℕ}
-use native.Mathlib.Omega.{arith}
-use lib.Dec.{eqb}
-use borrow.Author.Tests.{eq-eqb}
 use Rattle.meaning.specs.Store.{Store}
 use Rattle.meaning.specs.Holding.{none, free}
 use Rattle.meaning.specs.Programs.{UNMAP}
-use Rattle.meaning.proofs.Words.{clash, free-none, naming-named, named-below, naming-not-none, naming-once, upd-same}
-use Rattle.meaning.proofs.Lines.{for-H, for-N, Line, From, _▸_, n-held, p-held, either-way, mapped-freed, mapped-map, agrees-map, owner-free, mapped-block-free, freed-agrees, numbers-blocks, facts-idle, keeping}
+use Rattle.meaning.proofs.Words.{either-way, free-none, naming-not-none, upd-same}
+use Rattle.meaning.proofs.Sharing.{owner-free, mapped-block-free, numbers-blocks}
+use Rattle.meaning.proofs.Lines.{for-H, for-N, Line, From, _▸_, n-held, p-held, mapped-freed, freed-agrees, unmapped-agrees, unmapped-mapped, looked-up, facts-idle, keeping}
 
 module _ (s : Store) (t : ℕ) where
   U1 : Line s t UNMAP 1
@@ -25,7 +22,7 @@ module _ (s : Store) (t : ℕ) where
   U3 n c p q h H =
       either-way (free (s .map n))
       (λ f. rw f (let u = free-none (s .map n) f in search (keeping, H .holds .locks)))
-      (λ f. rw f (let u = naming-named (s .map n) f in let b = named-below (s .map n) (s .blocks) f (H .inv .agrees .map-below n) in search (keeping, H .holds .locks)))
+      (λ f. rw f (let u = looked-up s (H .inv) n f in search (keeping, H .holds .locks)))
 
   U4 : Line s t UNMAP 4
   U4 n c p q h H =
@@ -41,9 +38,9 @@ module _ (s : Store) (t : ℕ) where
   U6 n c p q h H =
       let lock = n-held H refl in
       let headed = H .inv .agrees .headed n p (H .facts .on-p) in
-      let agrees = agrees-map (s .map) (s .header) (s .numbers) (s .blocks) n none (H .inv .agrees) (λ m e. naming-not-none m none e refl) (omega arith) in
-      let mapped = mapped-map (s .map) (s .header) n none (λ m. false) (λ m. eqb p m) (λ m on. eq-eqb p m (naming-once p m (sym (H .facts .on-p) ∙ on))) (λ m x. clash x refl) (λ m x. clash x refl) in
-      let on = upd-same (s .map) n none in
+      let agrees = unmapped-agrees s (H .inv) n in
+      let mapped = unmapped-mapped s n p (H .facts .on-p) in
+      let off = upd-same (s .map) n none in
       search (keeping, mapped, H .holds .locks, H .holds .own)
 
   U7 : Line s t UNMAP 7

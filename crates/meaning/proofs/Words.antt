@@ -2,7 +2,6 @@
 -- Assumes nothing.
 use mathlib.Core.Path.{_≡_, refl, sym}
 use mathlib.Core.Bool.{Bool, true, false, _&&_, _||_}
-use mathlib.Core.Logic.{_⊎_, inl, inr}
 use Prim.Native.Nat.{ℕ, _+_, _-_, _<_, _≤_}
 use native.Mathlib.Omega.{arith}
 use lib.Dec.{eqb, leb}
@@ -17,9 +16,9 @@ pub same : (k : ℕ) → eqb k k ≡ true
 same k = eq-eqb k k refl
 
 -- a test goes one way or the other
-pub either : (b : Bool) → (b ≡ true) ⊎ (b ≡ false)
-either true = inl refl
-either false = inr refl
+pub either-way : (b : Bool) {A : Type 0} → (b ≡ true → A) → (b ≡ false → A) → A
+either-way true f g = f refl
+either-way false f g = g refl
 
 pub clash : {A : Type 0} {b : Bool} → b ≡ true → b ≡ false → A
 clash x y = absurd (let z : _≡_ {A = ℕ} 0 1 = cc in omega arith)
@@ -32,9 +31,9 @@ pub and-right : (a b : Bool) → (a && b) ≡ true → b ≡ true
 and-right true b e = e
 and-right false b e = clash e refl
 
-pub or-either : (a b : Bool) → (a || b) ≡ true → (a ≡ true) ⊎ (b ≡ true)
-or-either true b e = inl refl
-or-either false b e = inr e
+pub or-way : (a b : Bool) {A : Type 0} → (a || b) ≡ true → (a ≡ true → A) → (b ≡ true → A) → A
+or-way true b e f g = f refl
+or-way false b e f g = g e
 
 pub within-true : (low high x : ℕ) → within low high x ≡ true → (low ≤ x) × (x ≤ high)
 within-true low high x e =
@@ -74,11 +73,12 @@ held-by w f =
     (named w, eq-eqb w (w - 1 + 1) (omega arith))
 
 pub nobody-free : (w : ℕ) → ((v : ℕ) → heldBy v w ≡ false) → free w ≡ true
-nobody-free w nobody = go (either (free w))
-  where
-    go : (free w ≡ true) ⊎ (free w ≡ false) → free w ≡ true
-    go (inl f) = f
-    go (inr f) = let x = held-by w f in clash (x .1) (nobody (x .0))
+nobody-free w nobody = either-way (free w) (λ f. f) (λ f. let x = held-by w f in clash (x .1) (nobody (x .0)))
+
+-- so is what nobody but t could hold, if t doesn't
+pub alone-free : (t w : ℕ) → heldBy t w ≡ false → ((v : ℕ) → heldBy v w ≡ true → t ≡ v) → free w ≡ true
+alone-free t w lacks alone =
+    nobody-free w (λ v. either-way (heldBy v w) (λ h. rw (← alone v h) lacks) (λ h. h))
 
 -- ---- words that name
 
@@ -116,9 +116,7 @@ pub upd-other : {A : Type 0} (f : ℕ → A) (i j : ℕ) (v : A) → (i ≡ j �
 upd-other f i j v apart = rw (ne-eqb i j apart)
 
 -- what holds of an entry before and of the value put holds of it after
-pub upd-each : {A : Type 0} (P : ℕ → A → Type 0) (f : ℕ → A) (i : ℕ) (v : A) → P i v → ((j : ℕ) → (i ≡ j → ⊥) → P j (f j)) → (j : ℕ) → P j (upd f i v j)
-upd-each P f i v new old j = go (either (eqb i j))
-  where
-    go : (eqb i j ≡ true) ⊎ (eqb i j ≡ false) → P j (upd f i v j)
-    go (inl e) = rw (sym (eqb-true i j e), upd-same f i v) new
-    go (inr e) = rw e (old j (eqb-false i j e))
+pub upd-each : {A : Type 0} (P : ℕ → A → Type 0) (f : ℕ → A) (i : ℕ) (v : A) → P i v →
+    ((j : ℕ) → (i ≡ j → ⊥) → P j (f j)) → (j : ℕ) → P j (upd f i v j)
+upd-each P f i v new old j =
+    either-way (eqb i j) (λ e. rw (sym (eqb-true i j e), upd-same f i v) new) (λ e. rw e (old j (eqb-false i j e)))

@@ -1,6 +1,6 @@
 -- The lines of write.
 -- Assumes nothing.
-use mathlib.Core.Path.{_≡_, refl, ap, subst}
+use mathlib.Core.Path.{refl}
 use mathlib.Core.Bool.{false}
 use Prim.Native.Nat.{ℕ}
 use native.Mathlib.Omega.{arith}
@@ -10,8 +10,9 @@ use Rattle.meaning.specs.Store.{Store}
 use Rattle.meaning.specs.Holding.{free, naming}
 use Rattle.meaning.specs.Choosing.{lowestFree}
 use Rattle.meaning.specs.Programs.{WRITE}
-use Rattle.meaning.proofs.Words.{same, free-none, naming-named, named-below, naming-not-free, naming-not-none, naming-once, upd-same}
-use Rattle.meaning.proofs.Lines.{for-H, for-N, Line, From, _▸_, n-held, p-held, either-way, mapped-headed, mapped-map, agrees-map, owner-free, mapped-block-free, free-block-free, headed-agrees, numbers-blocks, lowest-free, content-guarded, facts-idle, keeping}
+use Rattle.meaning.proofs.Words.{either-way, same, free-none, naming-not-free, naming-not-none, upd-same}
+use Rattle.meaning.proofs.Sharing.{owner-free, mapped-block-free, free-block-free, numbers-blocks, lowest-free, content-guarded}
+use Rattle.meaning.proofs.Lines.{for-H, for-N, Line, From, _▸_, n-held, p-held, mapped-headed, headed-agrees, moved-agrees, moved-mapped, looked-up, facts-idle, keeping}
 
 module _ (s : Store) (t : ℕ) where
   W1 : Line s t WRITE 1
@@ -26,7 +27,7 @@ module _ (s : Store) (t : ℕ) where
   W3 n c p q h H =
       either-way (free (s .map n))
       (λ f. rw f (let u = free-none (s .map n) f in search (keeping, H .holds .locks)))
-      (λ f. rw f (let u = naming-named (s .map n) f in let b = named-below (s .map n) (s .blocks) f (H .inv .agrees .map-below n) in search (keeping, H .holds .locks)))
+      (λ f. rw f (let u = looked-up s (H .inv) n f in search (keeping, H .holds .locks)))
 
   W4 : Line s t WRITE 4
   W4 n c p q h H =
@@ -65,9 +66,10 @@ module _ (s : Store) (t : ℕ) where
   W10 : Line s t WRITE 10
   W10 n c p q h H =
       let lock = n-held H refl in
-      let headed : (m : ℕ) → p ≡ m → s .header m ≡ naming n = λ m e. subst (λ (m : ℕ). s .header m ≡ naming n) e (H .facts .headed-p) in
-      let agrees = agrees-map (s .map) (s .header) (s .numbers) (s .blocks) n (naming p) (H .inv .agrees) (λ m e. headed m (naming-once p m e)) (omega arith) in
-      let mapped = mapped-map (s .map) (s .header) n (naming p) (λ m. eqb p m) (λ m. false) (λ m on. naming-not-none m (s .map n) on (H .facts .unmapped)) (λ m x. headed m (eqb-true p m x)) (λ m x. ap naming (eqb-true p m x)) in
+      let agrees = moved-agrees s (H .inv) n p (H .facts .headed-p) (H .facts .p-below) in
+      let mapped =
+      moved-mapped s n p (H .facts .headed-p) (λ m. eqb p m) (λ m. false) (λ m x. eqb-true p m x)
+      (λ m on. naming-not-none m (s .map n) on (H .facts .unmapped)) in
       let on = upd-same (s .map) n (naming p) in
       search (keeping, mapped, H .holds .locks, H .holds .own)
 

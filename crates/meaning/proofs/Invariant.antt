@@ -1,15 +1,25 @@
--- Who may touch what when: the invariant of the machine, `Inv`, which each store grown from fresh satisfies (Demand1).
+-- Who may touch what when: the invariant of the machine, `Inv`. Each store grown from fresh satisfies it (Demand1).
 --
--- It has three parts, and each is here for a reason.
---  * The table says of a thread, from its operation and line alone, what it holds, owns and knows. A range is of lines at which the
---    thread STANDS: that line is its next. Lay it beside 01, "The lines": a range opens after the line that takes, owns, looks up or
---    writes, and closes after the line that releases, lets go or writes again.
---  * `Guards` says which lock or owner a thread needs for which words. What a thread knows of a word stays true while others step,
---    since it holds what guards that word: so nothing here compares two lines or two acts.
---  * `Agrees` and `headed` say what the map and the headers have to do with one another. That they agree at all times would be
---    false: between W7 and W10, U6 and U7, L10 and L13 the block of one thread is astray, and that thread owns the headers.
+-- THE TABLE says of a thread, from its operation and line alone, what it holds, owns, is about to take and knows. A range is of lines at
+-- which the thread stands: that line is its next. Lay it beside 01, "The lines": a range opens after the line that takes, owns, looks
+-- up or writes, and closes after the line that releases, lets go or writes again. What the rows are for:
+--  * holds and owns. The lock and owner words are these flags (`Holds`). So a line that releases or lets go has what it needs, a line
+--    that owns finds nobody there (whoever could own it would have a lock or owner that this thread has), and nobody waits for itself.
+--  * about to take. Why a thread waits, and which two steps can't be swapped (EitherOrder).
+--  * n unmapped, n on p, n on q. What was looked up at W3, R2 and U3, or read off a header at L5, is still so when it is used.
+--  * p free, q free, p headed, q headed. A content line needs a header; a header is written where none is, so that no number has two
+--    blocks; what W5 and L3 found free is so until W7 and L10.
+--  * h names n, h heads p, p apart from q. The word that L10 writes is n's, and L13 frees, L14 lets go, the one block and not the other.
+--  * astray. Between W7 and W10, U6 and U7, L10 and L13 a header of this thread points to a number that isn't mapped to its block.
+--  * chosen now, c of p, q has c, c of n. What levelling chose and copied, and what a read read, is still there: for what an operation
+--    leaves and answers, not for demand 1.
+--  * unset. A register that no line has set is as begin left it, so that the lines before the last lock can be run again.
+-- GUARDS says which lock or owner a thread has when it changes a word. A thread that knows something of a word has what guards that
+-- word, so the word stays as it is while others step: no two lines and no two acts are ever compared.
+-- MAP AND HEADERS: the map points to blocks whose header points back, at all times (`Agrees`); a header points to a number that is
+-- mapped to its block, unless that block is astray (`mapped`). They agree when nobody owns the headers.
 --
--- Definitions only; assumes nothing.
+-- Definitions only. Assumes nothing.
 use mathlib.Core.Path.{_≡_}
 use mathlib.Core.Bool.{Bool, true, false, cond, _&&_, _||_}
 use mathlib.Core.List.{List, [], _∷_, _++_}
@@ -48,7 +58,7 @@ among (span ∷ l) line = within (span .0) (span .1) line || among l line
 abbrev pub row : List (ℕ × ℕ) → List (ℕ × ℕ) → List (ℕ × ℕ) → List (ℕ × ℕ) → Thread → Bool
 row write read unmap level r = among (getD (never ∷ write ∷ read ∷ unmap ∷ level ∷ []) (r .op) never) (r .line)
 
--- -- what it holds and owns                write                 read     unmap     level
+-- -- what it holds and owns: lines of write, of read, of unmap, of level
 
 abbrev pub holdsH : Thread → Bool
 holdsH = row (2 – 12) never (2 – 11) (2 – 18)
@@ -172,8 +182,7 @@ ownsBlock r m = ownsQ r && eqb (r .q) m || ownsP r && eqb (r .p) m
 abbrev pub leadsAstray : Thread → ℕ → Bool
 leadsAstray r m = q-astray r && eqb (r .q) m || p-astray r && eqb (r .p) m
 
--- The lock and owner words are the flags, for each thread v with its record r: so no two threads hold one lock, none waits for itself,
--- and who holds what can be read off both sides.
+-- the lock and owner words are the flags, for each thread v with its record r
 pub record Holds (s : Store) (v : ℕ) (r : Thread) : Type 0 where
   pub lock : heldBy v (s .lock) ≡ holdsH r
   pub owner : heldBy v (s .owner) ≡ ownsHeaders r

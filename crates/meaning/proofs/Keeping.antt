@@ -47,7 +47,8 @@ everywhere test all r (inr o) =
     let op-is : r .op - 1 + 1 ≡ r .op = omega arith in
     let line-is : r .line - 1 + 1 ≡ r .line = omega arith in
     let each =
-    every-at LEVEL (λ k. every (lastLine (k + 1)) (λ l. test (k + 1) (l + 1))) (and-right (test 0 0) _ all) (r .op - 1) (omega arith) in
+    every-at LEVEL (λ k. every (lastLine (k + 1)) (λ l. test (k + 1) (l + 1))) (and-right (test 0 0) _ all) (r .op - 1)
+    (omega arith) in
     rw line-is at (every-at (lastLine (r .op)) (λ l. test (r .op) (l + 1)) (rw op-is at each) (r .line - 1) (omega arith))
 
 -- where the one flag is up, so is the other
@@ -119,7 +120,8 @@ module _ (s : Store) (I : Inv s) (t : ℕ) (r : Thread) (e : Effect) (G : Guards
   pub map-kept : reads-map (s .thread v) ≡ true → put (e .map) (s .map) (s .thread v .n) ≡ s .map (s .thread v .n)
   map-kept x =
       put-kept (e .map) (s .map) (λ k w. GuardsMap s t k) (G .map) (s .thread v .n)
-      (λ w g. or-way (holdsN (s .thread v)) (ownsHeaders (s .thread v)) x (λ y. locks-lacks y (g .locks)) (λ y. owner-lacks y (g .owner)))
+      (λ w g. or-way (holdsN (s .thread v)) (ownsHeaders (s .thread v)) x (λ y. locks-lacks y (g .locks))
+      (λ y. owner-lacks y (g .owner)))
 
   pub header-kept : ownsHeaders (s .thread v) ≡ true → put (e .header) (s .header) ≡ s .header
   header-kept x =
@@ -174,7 +176,8 @@ module _ (s : Store) (I : Inv s) (t : ℕ) (r : Thread) (e : Effect) (G : Guards
         apart = f .apart;
         chosen =
             where-up (chosen-now r) _
-            (λ x. rw (header-kept (up chosen-now ownsHeaders refl r st x), wear-kept (up chosen-now holdsH refl r st x)) (f .chosen));
+            (λ x. rw (header-kept (up chosen-now ownsHeaders refl r st x), wear-kept (up chosen-now holdsH refl r st x))
+            (f .chosen));
         copied =
             where-up (c-of-p r) _ (λ x. rw (content-kept (r .p) (p-owned r (up c-of-p ownsP refl r st x))) (f .copied));
         pasted =
@@ -199,7 +202,8 @@ pub record Moves (s : Store) (t : ℕ) (r r′ : Thread) (e : Effect) : Type 0 w
   pub agrees : Agrees (put (e .map) (s .map)) (put (e .header) (s .header)) (s .numbers) (s .blocks)
   -- a header that pointed to its number, or was t's own astray, does so afterwards
   pub mapped : (m k : ℕ) → put (e .header) (s .header) m ≡ naming k →
-      (s .header m ≡ naming k → Back (s .map) m k (leadsAstray r m ≡ true)) → Back (put (e .map) (s .map)) m k (leadsAstray r′ m ≡ true)
+      (s .header m ≡ naming k → Back (s .map) m k (leadsAstray r m ≡ true)) →
+      Back (put (e .map) (s .map)) m k (leadsAstray r′ m ≡ true)
 
 module _ (s : Store) (I : Inv s) (t : ℕ) (r′ : Thread) (e : Effect) (M : Moves s t (s .thread t) r′ e) where
   mapped-kept : (m k : ℕ) → put (e .header) (s .header) m ≡ naming k →
@@ -209,7 +213,8 @@ module _ (s : Store) (I : Inv s) (t : ℕ) (r′ : Thread) (e : Effect) (M : Mov
       (λ y. mine (λ z. absurd (eqb-false (s .header m) (naming k) y z)))
     where
       -- t's own part
-      after : Back (put (e .map) (s .map)) m k (leadsAstray r′ m ≡ true) → Back (put (e .map) (s .map)) m k (Astray (apply s t r′ e) m)
+      after : Back (put (e .map) (s .map)) m k (leadsAstray r′ m ≡ true) →
+          Back (put (e .map) (s .map)) m k (Astray (apply s t r′ e) m)
       after (inl y) = inl y
       after (inr y) = inr (record { who = t; leads = rw (same t) y })
 

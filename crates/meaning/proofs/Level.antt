@@ -28,7 +28,8 @@ module _ (s : Store) (t : ℕ) where
   L3 : Line s t LEVEL 3
   L3 n c p q h H = let to = to-found s (H .inv) t (H .holds .owner) (λ m. rw (H .is)) in chosen (to .0) (to .1) (to .2) (to .3)
     where
-      chosen : (to : ℕ) → toBlock (s .header) (s .wear) (s .blocks) ≡ At to → to < s .blocks → s .header to ≡ none → Fine s t (at LEVEL 3 n c p q h) (perform (actAt LEVEL 3) s t (at LEVEL 3 n c p q h))
+      chosen : (to : ℕ) → toBlock (s .header) (s .wear) (s .blocks) ≡ At to → to < s .blocks → s .header to ≡ none →
+          Fine s t (at LEVEL 3 n c p q h) (perform (actAt LEVEL 3) s t (at LEVEL 3 n c p q h))
       chosen to found below empty =
           let from = from-below s (H .inv) to below in
           rw (H .holds .owner, found) (search (keeping, H .holds .locks))
@@ -100,7 +101,8 @@ module _ (s : Store) (t : ℕ) where
   L13 : Line s t LEVEL 13
   L13 n c p q h H =
       let own = p-held H refl in
-      let agrees = freed-agrees s (H .inv) n p (H .facts .headed-p) (λ on. H .facts .apart (naming-once p q (sym on ∙ H .facts .on-q))) in
+      let agrees =
+      freed-agrees s (H .inv) n p (H .facts .headed-p) (λ on. H .facts .apart (naming-once p q (sym on ∙ H .facts .on-q))) in
       let mapped = mapped-freed (s .map) (s .header) p in
       let freed = upd-same (s .header) p none in
       rw (H .holds .owner, own) (search (keeping, mapped, H .holds .locks, H .holds .own))

@@ -9,5 +9,6 @@ pub mod Write
 pub mod Read
 pub mod Unmap
 pub mod Level
+pub mod EveryLine
 pub mod Demand1
 pub mod EitherOrder

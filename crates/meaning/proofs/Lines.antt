@@ -106,7 +106,8 @@ agrees-header : (map header : ℕ → ℕ) (numbers blocks i w : ℕ) → Agrees
     ((k : ℕ) → map k ≡ naming i → ⊥) → w ≤ numbers → Agrees map (upd header i w) numbers blocks
 agrees-header map header numbers blocks i w A alone below =
     record {
-      headed = λ k. upd-each (λ m x. map k ≡ naming m → x ≡ naming k) header i w (λ on. absurd (alone k on)) (λ m _. A .headed k m);
+      headed = λ k. upd-each (λ m x. map k ≡ naming m → x ≡ naming k) header i w (λ on. absurd (alone k on))
+          (λ m _. A .headed k m);
       map-below = A .map-below;
       header-below = upd-each (λ m x. x ≤ numbers) header i w below (λ m _. A .header-below m);
     }
@@ -126,7 +127,8 @@ mapped-header : (map header : ℕ → ℕ) (i w : ℕ) (before after : ℕ → B
     ((m : ℕ) → (i ≡ m → ⊥) → before m ≡ true → after m ≡ true) → (m k : ℕ) → upd header i w m ≡ naming k →
     (header m ≡ naming k → Back map m k (before m ≡ true)) → Back map m k (after m ≡ true)
 mapped-header map header i w before after new rest m k =
-    upd-each (λ m x. x ≡ naming k → (header m ≡ naming k → Back map m k (before m ≡ true)) → Back map m k (after m ≡ true)) header i w
+    upd-each (λ m x. x ≡ naming k → (header m ≡ naming k → Back map m k (before m ≡ true)) →
+    Back map m k (after m ≡ true)) header i w
     (λ x _. inr (new k x)) (λ m apart x old. go m apart (old x)) m
   where
     go : (m : ℕ) → (i ≡ m → ⊥) → Back map m k (before m ≡ true) → Back map m k (after m ≡ true)
@@ -147,7 +149,8 @@ mapped-freed map header i =
 -- the one that its number leaves, and no longer the one that it is mapped to
 mapped-map : (map header : ℕ → ℕ) (i w : ℕ) (before after : ℕ → Bool) → ((m : ℕ) → map i ≡ naming m → after m ≡ true) →
     ((m : ℕ) → before m ≡ true → header m ≡ naming i) → ((m : ℕ) → before m ≡ true → w ≡ naming m) →
-    (m k : ℕ) → header m ≡ naming k → (header m ≡ naming k → Back map m k (before m ≡ true)) → Back (upd map i w) m k (after m ≡ true)
+    (m k : ℕ) → header m ≡ naming k → (header m ≡ naming k → Back map m k (before m ≡ true)) →
+    Back (upd map i w) m k (after m ≡ true)
 mapped-map map header i w before after leaves was comes m k x old =
     upd-each (λ k y. header m ≡ naming k → Back map m k (before m ≡ true) → (y ≡ naming m) ⊎ (after m ≡ true)) map i w
     (λ _ o. mine o) (λ k apart x o. other k apart x o) k x (old x)
@@ -199,7 +202,8 @@ moved-mapped s n m headed before after one leaves =
 pub unmapped-agrees : (s : Store) (I : Inv s) (n : ℕ) →
     Agrees (upd (s .map) n none) (s .header) (s .numbers) (s .blocks)
 unmapped-agrees s I n =
-    agrees-map (s .map) (s .header) (s .numbers) (s .blocks) n none (I .agrees) (λ m e. naming-not-none m none e refl) (omega arith)
+    agrees-map (s .map) (s .header) (s .numbers) (s .blocks) n none (I .agrees) (λ m e. naming-not-none m none e refl)
+    (omega arith)
 
 pub unmapped-mapped : (s : Store) (n p : ℕ) → s .map n ≡ naming p → (x k : ℕ) → s .header x ≡ naming k →
     (s .header x ≡ naming k → Back (s .map) x k (false ≡ true)) → Back (upd (s .map) n none) x k (eqb p x ≡ true)

@@ -23,7 +23,8 @@ pub limits-sizes : (t n p d : ℕ) → inLimits t n p d ≡ true → (n < p) × 
 limits-sizes t n p d l =
     let three = and-left _ (within least mostDistance d) l in
     let two = and-left _ (within (n + 1) mostBlocks p) three in
-    let blocks = within-true (n + 1) mostBlocks p (and-right (within least mostThreads t && within least mostNumbers n) _ three) in
+    let blocks =
+    within-true (n + 1) mostBlocks p (and-right (within least mostThreads t && within least mostNumbers n) _ three) in
     let numbers = within-true least mostNumbers n (and-right (within least mostThreads t) _ two) in
     omega arith
 
@@ -61,11 +62,13 @@ module _ (s : Store) (I : Inv s) where
       (λ y. subst (Owned s v) (eqb-true (r .q) m (and-right (ownsQ r) _ y))
       (owned-through v (r .n) (r .q) (q-free r) (q-headed r) (n-on-q r) (f .free-q) (f .headed-q) (f .on-q)
       (rw (I .holds v .owner, mine)
-      (up ownsQ (λ r. q-free r && ownsHeaders r || (q-headed r || n-on-q r) && holdsN r) refl r (I .stands v) (and-left (ownsQ r) _ y)))))
+      (up ownsQ (λ r. q-free r && ownsHeaders r || (q-headed r || n-on-q r) && holdsN r) refl r (I .stands v)
+      (and-left (ownsQ r) _ y)))))
       (λ y. subst (Owned s v) (eqb-true (r .p) m (and-right (ownsP r) _ y))
       (owned-through v (r .n) (r .p) (p-free r) (p-headed r) (n-on-p r) (f .free-p) (f .headed-p) (f .on-p)
       (rw (I .holds v .owner, mine)
-      (up ownsP (λ r. p-free r && ownsHeaders r || (p-headed r || n-on-p r) && holdsN r) refl r (I .stands v) (and-left (ownsP r) _ y)))))
+      (up ownsP (λ r. p-free r && ownsHeaders r || (p-headed r || n-on-p r) && holdsN r) refl r (I .stands v)
+      (and-left (ownsP r) _ y)))))
 
   -- a block that t doesn't own is free where t has the lock of the number mapped to it
   pub mapped-block-free : (t n m : ℕ) → s .map n ≡ naming m → heldBy t (s .locks n) ≡ true → heldBy t (s .own m) ≡ false →

@@ -46,7 +46,8 @@ module _ (s : Store) (t : ℕ) where
   U7 : Line s t UNMAP 7
   U7 n c p q h H =
       let own = p-held H refl in
-      let agrees = freed-agrees s (H .inv) n p (H .facts .headed-p) (λ on. naming-not-none p (s .map n) on (H .facts .unmapped)) in
+      let agrees =
+      freed-agrees s (H .inv) n p (H .facts .headed-p) (λ on. naming-not-none p (s .map n) on (H .facts .unmapped)) in
       let mapped = mapped-freed (s .map) (s .header) p in
       let freed = upd-same (s .header) p none in
       rw (H .holds .owner, own) (search (keeping, mapped, H .holds .locks, H .holds .own))

@@ -80,6 +80,16 @@ pub alone-free : (t w : ℕ) → heldBy t w ≡ false → ((v : ℕ) → heldBy 
 alone-free t w lacks alone =
     nobody-free w (λ v. either-way (heldBy v w) (λ h. rw (← alone v h) lacks) (λ h. h))
 
+-- a word that only threads below a bound hold is at most the bound
+pub held-below : (w bound : ℕ) → ((v : ℕ) → heldBy v w ≡ true → v < bound) → w ≤ bound
+held-below w bound below =
+    either-way (free w) (λ f. let z : w ≡ 0 = eqb-true w 0 f in omega arith)
+    (λ f.
+    let holder = held-by w f in
+    let is = held-is (holder .0) w (holder .1) in
+    let b = below (holder .0) (holder .1) in
+    omega arith)
+
 -- ---- words that name
 
 pub naming-once : (j k : ℕ) → naming j ≡ naming k → j ≡ k

@@ -19,7 +19,7 @@ use Rattle.meaning.specs.Holding.{none, free, heldBy}
 use Rattle.meaning.specs.Programs.{WRITE, LEVEL}
 use Rattle.meaning.specs.Step.{nothing, verdict}
 use Rattle.meaning.specs.Call.{Entry, begin, step, callStore, reply, told, isIdle, begun}
-use Rattle.meaning.specs.Schedule.{run}
+use Rattle.meaning.specs.Schedule.{run, Grown, formatted, called}
 use Rattle.meaning.proofs.Words.{either-way, clash, and-left, none-held, held-by, held-below, naming-not-none}
 use Rattle.meaning.proofs.Invariant.{holdsH, holdsN, ownsHeaders, holdsLock, ownsBlock, Inv}
 use Rattle.meaning.proofs.Keeping.{moves-inv}
@@ -76,6 +76,10 @@ module _ (s : Store) (I : Inv s) where
 pub inv-run : (s : Store) → Inv s → (w : List Entry) → Inv (run callStore s w)
 inv-run s I [] = I
 inv-run s I (e ∷ w) = inv-run (callStore s e .after) (inv-call s I e) w
+
+pub inv-grown : (Fresh : Store → Type 0) → ((s : Store) → Fresh s → Inv s) → {s : Store} → Grown callStore Fresh s → Inv s
+inv-grown Fresh starts (formatted {s} f) = starts s f
+inv-grown Fresh starts (called {s} g e _) = inv-call s (inv-grown Fresh starts g) e
 
 -- ---- no step faults
 

@@ -11,7 +11,7 @@
 --    blocks; what W5 and L3 found free is so until W7 and L10.
 --  * h names n, h heads p, p apart from q. The word that L10 writes is n's, and L13 frees, L14 lets go, the one block and not the other.
 --  * astray. Between W7 and W10, U6 and U7, L10 and L13 a header of this thread points to a number that isn't mapped to its block.
---  * chosen now, c of p, q has c, c of n. What levelling chose and copied, and what a read read, is still there: for what an operation
+--  * chosen now, c of p, q has c, c of n. What levelling chose and copied, a write wrote and a read read is still there: for what an operation
 --    leaves and answers, not for demand 1.
 --  * unset. A register that no line has set is as begin left it, so that the lines before the last lock can be run again.
 -- GUARDS says which lock or owner a thread has when it changes a word. A thread that knows something of a word has what guards that
@@ -143,7 +143,7 @@ q-has-c = row never never never (12 – 12)
 
 -- c is what n's block holds
 abbrev pub c-of-n : Thread → Bool
-c-of-n = row never (5 – 6) never never
+c-of-n = row (15 – 16) (5 – 6) never never
 
 -- -- registers that are as begin left them: 0
 

@@ -1,4 +1,4 @@
--- The lines of level.
+-- The lines of level, one after the other: each has what it needs, and shows what the table says of the thread at its next line.
 -- Assumes nothing.
 use mathlib.Core.Path.{_≡_, refl, sym, _∙_}
 use mathlib.Core.Bool.{false, _||_, or-false}

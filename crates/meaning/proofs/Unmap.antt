@@ -1,4 +1,4 @@
--- The lines of unmap.
+-- The lines of unmap, one after the other: each has what it needs, and shows what the table says of the thread at its next line.
 -- Assumes nothing.
 use mathlib.Core.Path.{refl}
 use Prim.Native.Nat.{ℕ}

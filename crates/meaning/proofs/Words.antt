@@ -104,9 +104,6 @@ naming-not-free k w e = ne-eqb w 0 (λ z. omega arith)
 pub free-none : (w : ℕ) → free w ≡ true → w ≡ none
 free-none w f = eqb-true w 0 f
 
-pub none-free : (w : ℕ) → w ≡ none → free w ≡ true
-none-free w e = eq-eqb w 0 e
-
 pub naming-named : (w : ℕ) → free w ≡ false → w ≡ naming (named w)
 naming-named w f = let g : w ≡ 0 → ⊥ = eqb-false w 0 f in omega arith
 

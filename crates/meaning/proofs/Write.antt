@@ -1,6 +1,6 @@
--- The lines of write.
+-- The lines of write, one after the other: each has what it needs, and shows what the table says of the thread at its next line.
 -- Assumes nothing.
-use mathlib.Core.Path.{refl}
+use mathlib.Core.Path.{refl, sym, _∙_}
 use mathlib.Core.Bool.{false}
 use Prim.Native.Nat.{ℕ}
 use native.Mathlib.Omega.{arith}
@@ -10,9 +10,10 @@ use Rattle.meaning.specs.Store.{Store}
 use Rattle.meaning.specs.Holding.{free, naming}
 use Rattle.meaning.specs.Choosing.{lowestFree}
 use Rattle.meaning.specs.Programs.{WRITE}
+use Rattle.meaning.specs.Step.{onContent, apply}
 use Rattle.meaning.proofs.Words.{either-way, same, free-none, naming-not-free, naming-not-none, upd-same}
 use Rattle.meaning.proofs.Sharing.{owner-free, mapped-block-free, free-block-free, numbers-blocks, lowest-free, content-guarded}
-use Rattle.meaning.proofs.Lines.{for-H, for-N, Line, From, _▸_, n-held, p-held, mapped-headed, headed-agrees, moved-agrees, moved-mapped, looked-up, facts-idle, keeping}
+use Rattle.meaning.proofs.Lines.{kept-on, at, for-H, for-N, Line, From, _▸_, n-held, p-held, mapped-headed, headed-agrees, moved-agrees, moved-mapped, looked-up, facts-idle, keeping}
 
 module _ (s : Store) (t : ℕ) where
   W1 : Line s t WRITE 1
@@ -89,6 +90,8 @@ module _ (s : Store) (t : ℕ) where
       let own = p-held H refl in
       let headed = H .inv .agrees .headed n p (H .facts .on-p) in
       let guarded = content-guarded s (H .inv) t n p headed (n-held H refl) own in
+      let written = apply s t (at WRITE 15 n c p q h) (onContent p c) in
+      let seen = sym (kept-on written n p (H .facts .on-p) ∙ upd-same (s .content) p c) in
       rw (own, naming-not-free n (s .header p) headed) (search (keeping, H .holds .locks, H .holds .own))
 
   W15 : Line s t WRITE 15

@@ -119,7 +119,7 @@ static const row rows[] = {
 
     {4, 1, "L1", {{FREE_LOCK, LOCK_H}}, {{0, 0}}, 2, 0, {{LOCK_H, MINE}}},
     {4, 2, "L2", {{NO_OWNER, HEADERS}}, {{0, 0}}, 3, 0, {{HEADERS, MINE}}},
-    {4, 3, "L3", {{HELD, HEADERS}, {FREE_BLOCK, 0}}, {{REG_P, 0}, {REG_Q, 0}}, 4, 0, {{REG_P, 2}, {REG_Q, 3}}},
+    {4, 3, "L3", {{HELD, HEADERS}, {FREE_BLOCK, 0}}, {{REG_P, 1}, {REG_Q, 1}}, 4, 0, {{REG_P, 2}, {REG_Q, 3}}},
     {4, 4, "L4", {{HELD, HEADERS}}, {{HEADER2, 1}}, 5, 0, {{REG_H, 1}}},
     {4, 4, "L4 free block, owned", {{HELD, HEADERS}}, {{HEADER2, 0}, {OWNER2, 1}}, 5, 0, {{REG_H, 0}}},
     {4, 5, "L5 free", {{NO_NEED, 0}}, {{REG_H, 0}}, 17, 0, {{0, 0}}},

@@ -168,6 +168,37 @@ static void grow(uint32_t entries)
     }
 }
 
+/* Steps all open threads in turn. Gives how many there were. */
+static uint32_t step_all_open(const sizes *s)
+{
+    uint32_t open = 0;
+    for (uint32_t thread = 0; thread < s->t; thread++) {
+        if (word_get(now.bytes, thread_word(thread, THREAD_OP)) != 0) {
+            compare(call_step(thread));
+            open++;
+        }
+    }
+    return open;
+}
+
+/*
+ * In a grown store, stepping all open threads in turn finishes all of them, as
+ * the header promises. Some thread goes on in each round, so there are no more
+ * rounds than lines.
+ */
+static void grow_and_finish(uint32_t entries)
+{
+    grow(entries);
+    sizes s = sizes_of(now.bytes);
+    uint32_t rounds = LINES_MOST * s.t;
+    while (step_all_open(&s) != 0) {
+        if (rounds-- == 0) {
+            call c = call_step(0);
+            fail("open threads don't finish", &c, 0, 0, &now, &now, &now);
+        }
+    }
+}
+
 /* ---- Made at random ---- */
 
 /* A lock or owner: free, the thread that will step, or anyone. */
@@ -200,6 +231,19 @@ static uint32_t some_ground_of_wear(const sizes *s)
     }
 }
 
+/* Any line of any operation; L3 more often, since it has the most ways to go. */
+static void put_line(uint32_t thread)
+{
+    uint32_t op = chance_between(&dice, KERNELSUN_WRITE, KERNELSUN_LEVEL);
+    uint32_t line = chance_between(&dice, 1, last_line(op));
+    if (chance_one_in(&dice, 8)) {
+        op = KERNELSUN_LEVEL;
+        line = 3;
+    }
+    word_put(now.bytes, thread_word(thread, THREAD_OP), op);
+    word_put(now.bytes, thread_word(thread, THREAD_LINE), line);
+}
+
 static void make_thread(const sizes *s, uint32_t thread, int open)
 {
     for (size_t field = 0; field < THREAD_WORDS; field++) {
@@ -208,9 +252,7 @@ static void make_thread(const sizes *s, uint32_t thread, int open)
     if (!open) {
         return;
     }
-    uint32_t op = chance_between(&dice, KERNELSUN_WRITE, KERNELSUN_LEVEL);
-    word_put(now.bytes, thread_word(thread, THREAD_OP), op);
-    word_put(now.bytes, thread_word(thread, THREAD_LINE), chance_between(&dice, 1, last_line(op)));
+    put_line(thread);
     word_put(now.bytes, thread_word(thread, THREAD_N), chance_below(&dice, s->n));
     word_put(now.bytes, thread_word(thread, THREAD_C), chance_hostile(&dice));
     word_put(now.bytes, thread_word(thread, THREAD_P), chance_below(&dice, s->p));
@@ -336,8 +378,8 @@ static void hostile_arguments(uint32_t count)
         compare(call_step(thread));
         compare(call_begin(thread, chance_hostile(&dice), chance_hostile(&dice),
                            chance_hostile(&dice)));
-        compare(call_begin(thread, chance_between(&dice, 0, 5), chance_between(&dice, 0, s.n),
-                           chance_hostile(&dice)));
+        compare(call_begin(chance_below(&dice, s.t), chance_between(&dice, 0, 5),
+                           chance_between(&dice, s.n - 1, s.n + 1), chance_hostile(&dice)));
     }
 }
 
@@ -362,7 +404,7 @@ static void hostile_formats(uint32_t count)
 static void one_round(void)
 {
     switch (chance_below(&dice, 16)) {
-    case 0: case 1: case 2: case 3: case 4: grow(chance_below(&dice, 300)); break;
+    case 0: case 1: case 2: case 3: case 4: grow_and_finish(chance_below(&dice, 300)); break;
     case 5: damage(20); break;
     case 6: odd_lengths(5); break;
     case 7: hostile_arguments(20); break;

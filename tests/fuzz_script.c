@@ -25,7 +25,7 @@
 #include "reference.h"
 
 #define SEED_DEFAULT 1990u
-#define COUNT_DEFAULT 300u
+#define COUNT_DEFAULT 600u
 #define SECONDS_DEFAULT 25u
 
 /* A single script runs in a fraction of a second. */
@@ -154,8 +154,36 @@ static void remove_byte(size_t at)
     input.len--;
 }
 
+/* The places where the grammar is strict, each broken in the way that a person would. */
+static void damage_grammar(void)
+{
+    static const struct {
+        char before, put;
+        int in_place;
+    } breaks[] = {
+        {' ', ' ', 0},  {' ', '\t', 1}, {'\n', ' ', 0},  {'\n', '\r', 0}, {'\n', '\n', 0},
+        {'\n', 0, 0},   {'\n', ' ', 1}, {'\n', '\r', 1}, {'s', 'S', 1},   {'b', 'B', 1},
+        {'f', 'F', 1},  {'0', '0', 0},  {'1', '0', 0},   {'2', '0', 0},   {'s', ' ', 0},
+        {' ', '+', 1},  {'b', 'c', 1},  {'1', '-', 0},
+    };
+    size_t at = chance_below(&dice, (uint32_t)input.len);
+    uint32_t k = chance_below(&dice, sizeof breaks / sizeof breaks[0]);
+    while (at < input.len && input.bytes[at] != (uint8_t)breaks[k].before) {
+        at++;
+    }
+    if (at < input.len && breaks[k].in_place) {
+        input.bytes[at] = (uint8_t)breaks[k].put;
+    } else if (at < input.len) {
+        insert_byte(at, (uint8_t)breaks[k].put);
+    }
+}
+
 static void damage(void)
 {
+    if (input.len != 0 && chance_one_in(&dice, 2)) {
+        damage_grammar();
+        return;
+    }
     size_t at = chance_below(&dice, (uint32_t)input.len + 1);
     if (at == input.len || chance_one_in(&dice, 3)) {
         insert_byte(at, some_byte());
@@ -180,13 +208,13 @@ static size_t length_near_limit(void)
 
 static void make_script(void)
 {
-    uint32_t kind = chance_below(&dice, 10);
+    uint32_t kind = chance_below(&dice, 16);
     if (kind == 0) {
         make_good(length_near_limit());
     } else {
-        make_good(chance_below(&dice, kind < 3 ? 100 : kind < 9 ? 2000 : 20000));
+        make_good(chance_below(&dice, kind < 8 ? 150 : kind < 15 ? 2000 : 20000));
     }
-    if (kind % 3 == 1 || chance_one_in(&dice, 8)) {
+    if (kind % 4 != 3) {
         damage();
     }
 }

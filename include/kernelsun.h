@@ -92,7 +92,8 @@ extern "C" {
  * A macro, so that it can size a static array. For numbers within the limits.
  */
 #define KERNELSUN_LENGTH(t, n, p) \
-    ((size_t)4 * ((size_t)6 + (size_t)7 * (t) + (size_t)2 * (n) + (size_t)4 * (p)))
+    ((size_t)4 * ((size_t)6 + (size_t)7 * (size_t)(t) + (size_t)2 * (size_t)(n) + \
+                  (size_t)4 * (size_t)(p)))
 
 /* The longest area that there is: 10,712 bytes. */
 #define KERNELSUN_LENGTH_MOST \

@@ -374,7 +374,8 @@ static void hostile_arguments(uint32_t count)
     sizes s;
     make_any(&s);
     for (uint32_t i = 0; i < count; i++) {
-        uint32_t thread = chance_one_in(&dice, 2) ? chance_below(&dice, s.t) : chance_hostile(&dice);
+        int good = chance_one_in(&dice, 2);
+        uint32_t thread = good ? chance_below(&dice, s.t) : chance_hostile(&dice);
         compare(call_step(thread));
         compare(call_begin(thread, chance_hostile(&dice), chance_hostile(&dice),
                            chance_hostile(&dice)));

@@ -11,7 +11,8 @@ int main()
     uint64_t formatted = format(area, sizeof area, 2, 1, 2, 1);
     uint64_t begun = begin(area, sizeof area, 1, KERNELSUN_READ, 0, 0);
     uint64_t stepped = step(area, sizeof area, 0);
-    if (kernelsun_number(formatted) != KERNELSUN_WENT || kernelsun_number(begun) != KERNELSUN_WENT ||
+    if (kernelsun_number(formatted) != KERNELSUN_WENT ||
+        kernelsun_number(begun) != KERNELSUN_WENT ||
         kernelsun_number(stepped) != KERNELSUN_IDLE || kernelsun_value(stepped) != 0) {
         printf("FAILED: the door doesn't work from C++\n");
         return 1;

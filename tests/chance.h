@@ -11,9 +11,14 @@ typedef struct {
     uint64_t state; /* never 0 */
 } chance;
 
+/* Neighbouring seeds are spread first (splitmix64), or they would begin alike. */
 static inline chance chance_from(uint64_t seed)
 {
-    chance c = {(seed ^ 0x9e3779b97f4a7c15u) | 1u};
+    uint64_t z = seed + 0x9e3779b97f4a7c15u;
+    z = (z ^ z >> 30) * 0xbf58476d1ce4e5b9u;
+    z = (z ^ z >> 27) * 0x94d049bb133111ebu;
+    z ^= z >> 31;
+    chance c = {z != 0 ? z : 1};
     return c;
 }
 

@@ -83,7 +83,7 @@ static void fail(const char *why, const call *c, uint64_t door, uint64_t referen
 }
 
 /* Makes the call on both, compares, and leaves the area after it in `now`. */
-static uint32_t compare(call c)
+static uint64_t compare(call c)
 {
     static area before, reference_after;
     copy_area(&before, &now);
@@ -95,7 +95,7 @@ static uint32_t compare(call c)
         fail("door and reference differ", &c, door, reference, &before, &now, &reference_after);
     }
     coverage_count(&c, door, &before, &now);
-    return kernelsun_number(door);
+    return door;
 }
 
 /* ---- Sizes ---- */
@@ -148,14 +148,58 @@ static call some_begin(const sizes *s, uint32_t thread)
     return call_begin(thread, chance_between(&dice, KERNELSUN_WRITE, KERNELSUN_LEVEL), n, c);
 }
 
-/* One entry of a random schedule. FAULT is never met with a grown store. */
+/*
+ * The atomic manager: what each number holds, and what each open read must give.
+ * An operation has its place in the order from its last lock on (W2, R1, U2), so
+ * that is where the manager does it. Levelling changes nothing here.
+ */
+static struct {
+    uint32_t content[KERNELSUN_LOGICAL_MOST];
+    uint32_t read[KERNELSUN_THREADS_MOST];
+} manager;
+
+static void manager_does(uint32_t thread, uint32_t op, uint32_t line, uint32_t n, uint32_t c)
+{
+    if (op == KERNELSUN_WRITE && line == 2) {
+        manager.content[n] = c;
+    } else if (op == KERNELSUN_UNMAP && line == 2) {
+        manager.content[n] = 0;
+    } else if (op == KERNELSUN_READ && line == 1) {
+        manager.read[thread] = manager.content[n];
+    }
+}
+
+/* A step in a grown store: never FAULT, and a read gives what the manager gives. */
+static void step_grown(uint32_t thread)
+{
+    uint32_t before[THREAD_WORDS];
+    for (size_t field = 0; field < THREAD_WORDS; field++) {
+        before[field] = word_get(now.bytes, thread_word(thread, field));
+    }
+    call c = call_step(thread);
+    uint64_t r = compare(c);
+    if (kernelsun_number(r) == KERNELSUN_FAULT) {
+        fail("FAULT in a store grown from fresh", &c, r, r, &now, &now, &now);
+    }
+    if (kernelsun_number(r) == KERNELSUN_WENT) {
+        manager_does(thread, before[THREAD_OP], before[THREAD_LINE], before[THREAD_N],
+                     before[THREAD_C]);
+    }
+    if (kernelsun_number(r) == KERNELSUN_FINISHED && before[THREAD_OP] == KERNELSUN_READ &&
+        kernelsun_value(r) != manager.read[thread]) {
+        fail("a read doesn't give what the atomic manager gives", &c, r, r, &now, &now, &now);
+    }
+}
+
+/* One entry of a random schedule. */
 static void grow_once(const sizes *s)
 {
     uint32_t thread = chance_below(&dice, s->t);
     int idle = word_get(now.bytes, thread_word(thread, THREAD_OP)) == 0;
-    call c = idle != chance_one_in(&dice, 50) ? some_begin(s, thread) : call_step(thread);
-    if (compare(c) == KERNELSUN_FAULT) {
-        fail("FAULT in a store grown from fresh", &c, 0, 0, &now, &now, &now);
+    if (idle != chance_one_in(&dice, 50)) {
+        compare(some_begin(s, thread));
+    } else {
+        step_grown(thread);
     }
 }
 
@@ -163,6 +207,7 @@ static void grow(uint32_t entries)
 {
     sizes s = some_sizes();
     format_now(s);
+    memset(&manager, 0, sizeof manager);
     for (uint32_t i = 0; i < entries; i++) {
         grow_once(&s);
     }
@@ -174,7 +219,7 @@ static uint32_t step_all_open(const sizes *s)
     uint32_t open = 0;
     for (uint32_t thread = 0; thread < s->t; thread++) {
         if (word_get(now.bytes, thread_word(thread, THREAD_OP)) != 0) {
-            compare(call_step(thread));
+            step_grown(thread);
             open++;
         }
     }
@@ -301,7 +346,8 @@ static void step_made_areas(uint32_t count)
     for (uint32_t i = 0; i < count; i++) {
         uint32_t thread = chance_below(&dice, s.t);
         make_now(&s, thread);
-        while (compare(call_step(thread)) == KERNELSUN_WENT && !chance_one_in(&dice, 3)) {
+        while (kernelsun_number(compare(call_step(thread))) == KERNELSUN_WENT &&
+               !chance_one_in(&dice, 3)) {
         }
         compare(call_step(chance_below(&dice, s.t)));
         compare(some_begin(&s, chance_below(&dice, s.t)));

@@ -39,7 +39,7 @@ call call_step(uint32_t thread);
  */
 uint64_t through_door(const call *c, area *a);
 
-/* Seven characters for each line: "W5", "L18". */
+/* A line's label as in document 01: "W5", "L18". */
 typedef struct {
     char text[8];
 } label;

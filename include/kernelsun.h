@@ -1,0 +1,169 @@
+/*
+ * kernelsun.h: the C door of Kernelsun, a step machine for the layer of a
+ * flash store that decides which physical block holds which logical block and
+ * moves contents about so that all blocks wear alike.
+ *
+ * THE AREA
+ *
+ * All that the layer knows stands in one run of bytes that you own, the area.
+ * It may lie anywhere and at any alignment. Its length is exact:
+ * KERNELSUN_LENGTH(t, n, p) bytes for t threads, n logical and p physical
+ * blocks. The three functions below neither allocate nor keep anything between
+ * calls: an area may be copied, saved and brought back between any two calls.
+ *
+ * A content is one 32-bit word. 0 is "empty", what a read of an unmapped block
+ * gives; a written 0 is a content like any other and reads the same.
+ *
+ * An area is little-endian 32-bit words, in this order:
+ *
+ *     t, n, p, d, header lock, headers' owner
+ *     t thread records of 7:  operation, line, n, c, p, q, h
+ *     map                     n words: 0 unmapped, else physical number + 1
+ *     block locks             n words
+ *     p block records of 4:   header, content, wear, owner
+ *
+ * A lock or an owner is 0 for free, else thread + 1. A header and the register
+ * h are 0 for free, else logical number + 1. Look at the words as you please,
+ * but leave writing them to the functions: they check the form of the area at
+ * each call (KERNELSUN_SHAPE) and each line's needs (KERNELSUN_FAULT), and
+ * cannot notice a change that keeps to both.
+ *
+ * WHO MAY CALL WHEN
+ *
+ * A "thread" here is a number below t that carries at most one open operation.
+ * It need not be a thread of your system. Never let two calls run on the same
+ * area at one time: if several contexts share an area, put each call (not each
+ * operation) under one lock or in one critical section. Calls on different
+ * areas have nothing to do with each other.
+ *
+ * DRIVING AN OPERATION TO ITS END
+ *
+ * begin() opens an operation on an idle thread and does nothing else. Each
+ * step() then does one short line of it. Step until KERNELSUN_FINISHED comes
+ * back; the value beside it is the operation's answer, and the thread is idle
+ * again. KERNELSUN_BLOCKED means that the line waits for a lock that another
+ * open operation holds: step the other threads and try again. In an area that
+ * came from format() and was changed by these functions alone, stepping all
+ * open threads in turn finishes all of them.
+ *
+ *     uint64_t r = begin(area, len, 0, KERNELSUN_READ, 7, 0);
+ *     if (kernelsun_number(r) == KERNELSUN_WENT) {
+ *         do {
+ *             r = step(area, len, 0);
+ *             if (kernelsun_number(r) == KERNELSUN_BLOCKED)
+ *                 step_the_other_threads();
+ *         } while (kernelsun_number(r) == KERNELSUN_WENT ||
+ *                  kernelsun_number(r) == KERNELSUN_BLOCKED);
+ *     }
+ *     if (kernelsun_number(r) == KERNELSUN_FINISHED)
+ *         content = kernelsun_value(r);
+ *
+ * WHAT COMES BACK
+ *
+ * Each call gives a number, which says what happened, and a value. The value
+ * is 0 except beside KERNELSUN_FINISHED. Both come packed into one word:
+ * number times 4,294,967,296 plus value. Only KERNELSUN_WENT and
+ * KERNELSUN_FINISHED change the area. After any other number each byte is as
+ * it was.
+ */
+#ifndef KERNELSUN_H
+#define KERNELSUN_H
+
+#include <stddef.h>
+#include <stdint.h>
+
+#ifdef __cplusplus
+extern "C" {
+#endif
+
+/* Limits of format(), both ends included. */
+#define KERNELSUN_THREADS_LEAST 1u
+#define KERNELSUN_THREADS_MOST 16u
+#define KERNELSUN_LOGICAL_LEAST 1u
+#define KERNELSUN_LOGICAL_MOST 256u
+/* At least one physical block more than logical ones, so that one is free. */
+#define KERNELSUN_PHYSICAL_LEAST(n) ((n) + 1u)
+#define KERNELSUN_PHYSICAL_MOST 512u
+#define KERNELSUN_DISTANCE_LEAST 1u
+#define KERNELSUN_DISTANCE_MOST 1000u
+
+/*
+ * Length in bytes of an area for t threads, n logical and p physical blocks.
+ * A macro, so that it can size a static array. For numbers within the limits.
+ */
+#define KERNELSUN_LENGTH(t, n, p) \
+    ((size_t)4 * ((size_t)6 + (size_t)7 * (size_t)(t) + (size_t)2 * (size_t)(n) + \
+                  (size_t)4 * (size_t)(p)))
+
+/* The longest area that there is: 10,712 bytes. */
+#define KERNELSUN_LENGTH_MOST \
+    KERNELSUN_LENGTH(KERNELSUN_THREADS_MOST, KERNELSUN_LOGICAL_MOST, KERNELSUN_PHYSICAL_MOST)
+
+/* Operations, for begin(). */
+#define KERNELSUN_WRITE 1u /* block n gets content c; answers 0 */
+#define KERNELSUN_READ 2u  /* answers the content of block n, 0 if unmapped; c is not looked at */
+#define KERNELSUN_UNMAP 3u /* block n has no content any more; answers 0; c is not looked at */
+#define KERNELSUN_LEVEL 4u /* moves one content if wear is uneven; answers 1 if it did, else 0;
+                              n and c are not looked at */
+
+/* Numbers given back. The area is unchanged after each but the first two. */
+#define KERNELSUN_WENT 0u       /* formatted, begun or stepped */
+#define KERNELSUN_FINISHED 1u   /* last line done; the value is the operation's answer */
+#define KERNELSUN_BLOCKED 2u    /* the line takes a lock that isn't free; try again later */
+#define KERNELSUN_SHAPE 10u     /* not a well-formed area, or its length isn't exact */
+#define KERNELSUN_THREAD 11u    /* thread not below t */
+#define KERNELSUN_BUSY 12u      /* begin on a thread that has an open operation */
+#define KERNELSUN_IDLE 13u      /* step of a thread that has none */
+#define KERNELSUN_LOGICAL 14u   /* block number not below n (levelling takes any) */
+#define KERNELSUN_OPERATION 15u /* operation not 1 to 4 */
+#define KERNELSUN_FAULT 16u     /* a line's need isn't met: the area was changed by other hands */
+#define KERNELSUN_LIMITS 17u    /* format with a size outside its limits */
+
+/* The number in a result: one of the table above. */
+static inline uint32_t kernelsun_number(uint64_t result)
+{
+    return (uint32_t)(result >> 32);
+}
+
+/* The value in a result. */
+static inline uint32_t kernelsun_value(uint64_t result)
+{
+    return (uint32_t)(result & 0xffffffffu);
+}
+
+/*
+ * Makes len bytes at area a fresh store: t threads, all idle; n logical blocks,
+ * all unmapped; p physical blocks, all free and unworn. d is the difference in
+ * wear from which levelling moves a content. What the bytes held before does
+ * not matter.
+ *
+ * Gives WENT; or, the first that applies, LIMITS, SHAPE (len isn't
+ * KERNELSUN_LENGTH(t, n, p)).
+ */
+uint64_t format(uint8_t *area, size_t len, uint32_t t, uint32_t n, uint32_t p, uint32_t d);
+
+/*
+ * Opens operation op on an idle thread. n is the logical block and c the
+ * content, each for the operations that use it.
+ *
+ * Gives WENT; or, the first that applies, SHAPE, THREAD, BUSY, OPERATION,
+ * LOGICAL.
+ */
+uint64_t begin(uint8_t *area, size_t len, uint32_t thread, uint32_t op, uint32_t n, uint32_t c);
+
+/*
+ * Does the next line of the thread's operation.
+ *
+ * Gives WENT, or FINISHED with the answer after the last line; or, the first
+ * that applies, SHAPE, THREAD, IDLE, and then, of the line, BLOCKED or FAULT.
+ *
+ * For all three: area points to len bytes that may be read and written, and is
+ * not NULL, not even where len is 0.
+ */
+uint64_t step(uint8_t *area, size_t len, uint32_t thread);
+
+#ifdef __cplusplus
+}
+#endif
+
+#endif

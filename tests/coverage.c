@@ -1,0 +1,306 @@
+/* See coverage.h. It looks at areas only; it knows nothing of either machine. */
+#include "coverage.h"
+
+#include <stdio.h>
+
+#define WORD_MOST 0xffffffffu
+
+enum { NUMBERS = KERNELSUN_LIMITS + 1 };
+
+static unsigned long by_call[CALLS][NUMBERS];
+static unsigned long by_line[OPERATIONS + 1][LINES_MOST + 1][NUMBERS];
+
+enum {
+    W3_MAPPED, W3_UNMAPPED, W5_BEYOND_FIRST, R2_MAPPED, R2_UNMAPPED, R6_NOT_0, U3_MAPPED,
+    U3_UNMAPPED, U7_STAYS, L5_FREE, L5_USED, L13_STAYS, L18_MOVED, L18_NOTHING, L3_MOVES,
+    L3_NOTHING_MAPPED, L3_TOO_NEAR, L3_JUST_ENOUGH, L3_TIE_OF_FROM, L3_TIE_OF_TO, L3_BEYOND,
+    BY_ITSELF, BY_ANOTHER, NO_FREE_BLOCK, ACTS
+};
+
+static const char *const act_names[ACTS] = {
+    "W3 mapped", "W3 unmapped", "W5 beyond the first block", "R2 mapped", "R2 unmapped",
+    "R6 with a value that isn't 0", "U3 mapped", "U3 unmapped", "U7 wear stays at most",
+    "L5 free", "L5 not free", "L13 wear stays at most", "L18 moved", "L18 nothing moved",
+    "L3 moves", "L3 nothing mapped", "L3 too near", "L3 just far enough", "L3 tie of from",
+    "L3 tie of to", "L3 sum beyond 32 bits", "blocked by itself", "blocked by another",
+    "FAULT for want of a free block",
+};
+
+static unsigned long acts[ACTS];
+
+/* ---- Counting ---- */
+
+typedef struct {
+    const area *before, *after;
+    sizes s;
+    uint32_t thread, op, line, number, value;
+} met;
+
+static uint32_t reg_before(const met *m, size_t field)
+{
+    return word_get(m->before->bytes, thread_word(m->thread, field));
+}
+
+static uint32_t reg_after(const met *m, size_t field)
+{
+    return word_get(m->after->bytes, thread_word(m->thread, field));
+}
+
+static int is_at(const met *m, uint32_t op, uint32_t line)
+{
+    return m->op == op && m->line == line;
+}
+
+static void count_branches(const met *m)
+{
+    int jumped = reg_after(m, THREAD_LINE) != m->line + 1;
+    if (is_at(m, KERNELSUN_WRITE, 3)) {
+        acts[jumped ? W3_MAPPED : W3_UNMAPPED]++;
+    } else if (is_at(m, KERNELSUN_READ, 2)) {
+        acts[jumped ? R2_UNMAPPED : R2_MAPPED]++;
+    } else if (is_at(m, KERNELSUN_UNMAP, 3)) {
+        acts[jumped ? U3_UNMAPPED : U3_MAPPED]++;
+    } else if (is_at(m, KERNELSUN_LEVEL, 5)) {
+        acts[jumped ? L5_FREE : L5_USED]++;
+    } else if (is_at(m, KERNELSUN_WRITE, 5)) {
+        acts[W5_BEYOND_FIRST] += reg_after(m, THREAD_P) != 0;
+    }
+}
+
+static void count_wear(const met *m)
+{
+    size_t wear = block_word(&m->s, reg_before(m, THREAD_P), BLOCK_WEAR);
+    if (word_get(m->before->bytes, wear) == WORD_MOST) {
+        acts[U7_STAYS] += is_at(m, KERNELSUN_UNMAP, 7);
+        acts[L13_STAYS] += is_at(m, KERNELSUN_LEVEL, 13);
+    }
+}
+
+static void count_finish(const met *m)
+{
+    if (m->op == KERNELSUN_READ) {
+        acts[R6_NOT_0] += m->value != 0;
+    }
+    if (m->op == KERNELSUN_LEVEL) {
+        acts[m->value != 0 ? L18_MOVED : L18_NOTHING]++;
+    }
+}
+
+/* How many blocks of one kind have the wear of the chosen one. */
+static uint32_t alike(const met *m, uint32_t chosen, int used)
+{
+    uint32_t count = 0;
+    const uint8_t *bytes = m->before->bytes;
+    for (uint32_t p = 0; p < m->s.p; p++) {
+        int is_used = word_get(bytes, block_word(&m->s, p, BLOCK_HEADER)) != 0;
+        count += is_used == used && word_get(bytes, block_word(&m->s, p, BLOCK_WEAR)) ==
+                                        word_get(bytes, block_word(&m->s, chosen, BLOCK_WEAR));
+    }
+    return count;
+}
+
+static void count_chosen(const met *m, uint32_t from, uint32_t to)
+{
+    const uint8_t *bytes = m->before->bytes;
+    uint64_t wear_from = word_get(bytes, block_word(&m->s, from, BLOCK_WEAR));
+    uint64_t wear_to = word_get(bytes, block_word(&m->s, to, BLOCK_WEAR));
+    acts[L3_MOVES]++;
+    acts[L3_JUST_ENOUGH] += wear_to == wear_from + m->s.d;
+    acts[L3_TIE_OF_FROM] += alike(m, from, 1) > 1;
+    acts[L3_TIE_OF_TO] += alike(m, to, 0) > 1;
+}
+
+/* "from" became "to": nothing is mapped, or the least mapped wear is too near. */
+static void count_nothing_to_move(const met *m)
+{
+    const uint8_t *bytes = m->before->bytes;
+    uint64_t least = UINT64_MAX;
+    for (uint32_t p = 0; p < m->s.p; p++) {
+        uint64_t wear = word_get(bytes, block_word(&m->s, p, BLOCK_WEAR));
+        if (word_get(bytes, block_word(&m->s, p, BLOCK_HEADER)) != 0 && wear < least) {
+            least = wear;
+        }
+    }
+    if (least == UINT64_MAX) {
+        acts[L3_NOTHING_MAPPED]++;
+        return;
+    }
+    acts[L3_TOO_NEAR]++;
+    acts[L3_BEYOND] += least + m->s.d > WORD_MOST;
+}
+
+static void count_choice(const met *m)
+{
+    uint32_t from = reg_after(m, THREAD_P), to = reg_after(m, THREAD_Q);
+    if (from != to) {
+        count_chosen(m, from, to);
+    } else {
+        count_nothing_to_move(m);
+    }
+}
+
+static void count_blocked(const met *m)
+{
+    int block_lock = is_at(m, KERNELSUN_LEVEL, 6) || m->op == KERNELSUN_READ || m->line == 2;
+    size_t lock = block_lock ? lock_word(&m->s, reg_before(m, THREAD_N)) : WORD_HEADER_LOCK;
+    acts[word_get(m->before->bytes, lock) == m->thread + 1 ? BY_ITSELF : BY_ANOTHER]++;
+}
+
+/* W5 and L3 with the headers owned can only fail for want of a free block. */
+static void count_fault(const met *m)
+{
+    if (is_at(m, KERNELSUN_WRITE, 5) || is_at(m, KERNELSUN_LEVEL, 3)) {
+        acts[NO_FREE_BLOCK] += word_get(m->before->bytes, WORD_HEADERS_OWNER) == m->thread + 1;
+    }
+}
+
+static void count_acts(const met *m)
+{
+    switch (m->number) {
+    case KERNELSUN_BLOCKED: count_blocked(m); break;
+    case KERNELSUN_FAULT: count_fault(m); break;
+    case KERNELSUN_FINISHED: count_finish(m); break;
+    case KERNELSUN_WENT:
+        count_branches(m);
+        count_wear(m);
+        if (is_at(m, KERNELSUN_LEVEL, 3)) {
+            count_choice(m);
+        }
+        break;
+    default: break;
+    }
+}
+
+/* The numbers that a step gives when it came as far as its line. */
+static int is_of_line(uint32_t number)
+{
+    return number == KERNELSUN_WENT || number == KERNELSUN_FINISHED ||
+           number == KERNELSUN_BLOCKED || number == KERNELSUN_FAULT;
+}
+
+void coverage_count(const call *c, uint64_t r, const area *before, const area *after)
+{
+    uint32_t number = kernelsun_number(r);
+    if (number >= NUMBERS) {
+        return;
+    }
+    by_call[c->which][number]++;
+    if (c->which != CALL_STEP || !is_of_line(number)) {
+        return;
+    }
+    met m = {before, after, sizes_of(before->bytes), c->argument[0], 0, 0, number,
+             kernelsun_value(r)};
+    m.op = reg_before(&m, THREAD_OP);
+    m.line = reg_before(&m, THREAD_LINE);
+    by_line[m.op][m.line][number]++;
+    count_acts(&m);
+}
+
+/* ---- Reporting ---- */
+
+/* Lines by what they can give besides going on: nothing, BLOCKED or FAULT. */
+static uint32_t refusal_of(uint32_t op, uint32_t line)
+{
+    static const char *const kinds[OPERATIONS + 1] = {
+        "", "bb-ffffff-ffffff", "b-ffff", "bb-ff-fffff", "bfff-bfffff-ffffff"};
+    char kind = kinds[op][line - 1];
+    return kind == 'b' ? KERNELSUN_BLOCKED : kind == 'f' ? KERNELSUN_FAULT : KERNELSUN_WENT;
+}
+
+static uint32_t going_of(uint32_t op, uint32_t line)
+{
+    return line == last_line(op) ? KERNELSUN_FINISHED : KERNELSUN_WENT;
+}
+
+typedef struct {
+    unsigned long count;
+    uint32_t line;
+} least;
+
+static void keep_least(least *l, unsigned long count, uint32_t line)
+{
+    if (l->line == 0 || count < l->count) {
+        l->count = count;
+        l->line = line;
+    }
+}
+
+static int report_least(uint32_t op, const char *what, least l)
+{
+    printf(", %s %lu (%s)", what, l.count, line_label(op, l.line).text);
+    return l.count != 0;
+}
+
+static int report_operation(uint32_t op)
+{
+    static const char *const names[] = {"", "write", "read", "unmap", "level"};
+    least going = {0, 0}, blocked = {0, 0}, fault = {0, 0};
+    for (uint32_t line = 1; line <= last_line(op); line++) {
+        uint32_t refusal = refusal_of(op, line);
+        keep_least(&going, by_line[op][line][going_of(op, line)], line);
+        if (refusal != KERNELSUN_WENT) {
+            keep_least(refusal == KERNELSUN_BLOCKED ? &blocked : &fault,
+                       by_line[op][line][refusal], line);
+        }
+    }
+    printf("  %-5s least met of its %2u lines", names[op], (unsigned)last_line(op));
+    int whole = report_least(op, "going on", going);
+    whole &= report_least(op, "BLOCKED", blocked);
+    whole &= report_least(op, "FAULT", fault);
+    printf("%s\n", whole ? "" : "  NEVER MET");
+    return whole;
+}
+
+static int report_acts(void)
+{
+    size_t rarest = 0;
+    int whole = 1;
+    for (size_t i = 0; i < ACTS; i++) {
+        if (acts[i] < acts[rarest]) {
+            rarest = i;
+        }
+        if (acts[i] == 0) {
+            printf("  NEVER MET: %s\n", act_names[i]);
+            whole = 0;
+        }
+    }
+    printf("  %d acts, rarest: %s, %lu times\n", ACTS, act_names[rarest], acts[rarest]);
+    return whole;
+}
+
+static int report_call(int which, const char *name, const uint32_t *numbers, size_t count)
+{
+    int whole = 1;
+    printf("  %-6s", name);
+    for (size_t i = 0; i < count; i++) {
+        unsigned long met_times = by_call[which][numbers[i]];
+        printf(" %s %lu%s", number_name(numbers[i]), met_times, met_times ? "" : " NEVER MET");
+        whole &= met_times != 0;
+    }
+    printf("\n");
+    return whole;
+}
+
+static int report_calls(void)
+{
+    static const uint32_t of_format[] = {KERNELSUN_WENT, KERNELSUN_LIMITS, KERNELSUN_SHAPE};
+    static const uint32_t of_begin[] = {KERNELSUN_WENT, KERNELSUN_SHAPE,     KERNELSUN_THREAD,
+                                        KERNELSUN_BUSY, KERNELSUN_OPERATION, KERNELSUN_LOGICAL};
+    static const uint32_t of_step[] = {KERNELSUN_WENT,   KERNELSUN_FINISHED, KERNELSUN_BLOCKED,
+                                       KERNELSUN_FAULT,  KERNELSUN_SHAPE,    KERNELSUN_THREAD,
+                                       KERNELSUN_IDLE};
+    int whole = report_call(CALL_FORMAT, "format", of_format, 3);
+    whole &= report_call(CALL_BEGIN, "begin", of_begin, 6);
+    whole &= report_call(CALL_STEP, "step", of_step, 7);
+    return whole;
+}
+
+int coverage_is_whole(void)
+{
+    int whole = report_calls();
+    for (uint32_t op = 1; op <= OPERATIONS; op++) {
+        whole &= report_operation(op);
+    }
+    whole &= report_acts();
+    return whole;
+}

@@ -1,0 +1,613 @@
+/*
+ * The door by fixed expectations: limits and fresh areas, shape and length,
+ * each refusal and their order, the largest word in each argument, the cases
+ * of document 01's "Checked by hand", and interleavings that the document
+ * names. The single lines are in door_lines.c.
+ *
+ * Expectations are written from the document. Nothing here is computed by the
+ * reference.
+ */
+#include "expect.h"
+
+#include <string.h>
+
+#define COUNT(array) (sizeof(array) / sizeof((array)[0]))
+#define MOST 0xffffffffu
+
+/* ---- format ---- */
+
+static void expect_format(size_t len, sizes s, uint32_t number)
+{
+    static area a, after;
+    fill(&a, len, 0x5a);
+    after = a;
+    if (number == KERNELSUN_WENT) {
+        make_fresh(&after, s.t, s.n, s.p, s.d);
+    }
+    expect_area(&a, call_format(s.t, s.n, s.p, s.d), number, 0, &after);
+}
+
+static void check_limits_accepted(void)
+{
+    static const sizes good[] = {
+        {1, 1, 2, 1},       {16, 1, 2, 1},     {2, 1, 2, 1},      {1, 256, 257, 1},
+        {1, 256, 512, 1},   {1, 1, 512, 1},    {1, 1, 2, 1000},   {16, 256, 512, 1000},
+        {3, 255, 256, 999}, {15, 2, 511, 500},
+    };
+    about("format within the limits gives a fresh area");
+    for (size_t i = 0; i < COUNT(good); i++) {
+        expect_format(KERNELSUN_LENGTH(good[i].t, good[i].n, good[i].p), good[i], KERNELSUN_WENT);
+    }
+}
+
+static void check_limits_refused(void)
+{
+    static const sizes bad[] = {
+        {0, 1, 2, 1},     {17, 1, 2, 1},      {MOST, 1, 2, 1},   {1, 0, 2, 1},
+        {1, 0, 1, 1},     {1, 257, 258, 1},   {1, 257, 512, 1},  {1, MOST, 2, 1},
+        {1, MOST, 0, 1},  {1, 1, 0, 1},       {1, 1, 1, 1},      {1, 256, 256, 1},
+        {1, 1, 513, 1},   {1, 256, 513, 1},   {1, 1, MOST, 1},   {1, 1, 2, 0},
+        {1, 1, 2, 1001},  {1, 1, 2, MOST},    {MOST, MOST, MOST, MOST},
+        {0, 0, 0, 0},     {0x40000001u, 1, 2, 1},
+    };
+    about("format outside the limits, at its own length and at others");
+    for (size_t i = 0; i < COUNT(bad); i++) {
+        size_t own = KERNELSUN_LENGTH(bad[i].t, bad[i].n, bad[i].p);
+        if (own <= AREA_ROOM) {
+            expect_format(own, bad[i], KERNELSUN_LIMITS);
+        }
+        expect_format(0, bad[i], KERNELSUN_LIMITS);
+        expect_format(KERNELSUN_LENGTH(1, 1, 2), bad[i], KERNELSUN_LIMITS);
+        expect_format(KERNELSUN_LENGTH_MOST, bad[i], KERNELSUN_LIMITS);
+    }
+}
+
+/* ---- length ---- */
+
+/* Lengths that no area with the sizes 2, 1, 2 has; its own is 120. */
+static const size_t wrong_for_120[] = {0,   1,   15,   16,    23,    24,    116,   119,
+                                       121, 124, 4096, 10711, 10712, 10713, 10716, 15999};
+
+static void expect_length_refused(area *a, size_t len)
+{
+    a->len = len;
+    expect_refusal(a, call_begin(0, KERNELSUN_READ, 0, 0), KERNELSUN_SHAPE);
+    expect_refusal(a, call_step(0), KERNELSUN_SHAPE);
+    expect_refusal(a, call_begin(MOST, MOST, MOST, MOST), KERNELSUN_SHAPE);
+    expect_refusal(a, call_step(MOST), KERNELSUN_SHAPE);
+}
+
+static void check_lengths(void)
+{
+    static area a;
+    about("an area whose length isn't exact");
+    expect_equal("length for T=2, N=1, P=2", KERNELSUN_LENGTH(2, 1, 2), 120);
+    for (size_t i = 0; i < COUNT(wrong_for_120); i++) {
+        make_fresh(&a, 2, 1, 2, 1);
+        expect_length_refused(&a, wrong_for_120[i]);
+        sizes s = {2, 1, 2, 1};
+        expect_format(wrong_for_120[i], s, KERNELSUN_SHAPE);
+    }
+}
+
+static void check_longest(void)
+{
+    static area a;
+    static const size_t wrong[] = {0, 23, 10708, 10711, 10713, 10716, 15999};
+    about("the longest area, 10,712 bytes, and lengths about it");
+    expect_equal("longest area", KERNELSUN_LENGTH_MOST, 10712);
+    for (size_t i = 0; i < COUNT(wrong); i++) {
+        make_fresh(&a, 16, 256, 512, 1000);
+        expect_length_refused(&a, wrong[i]);
+        sizes s = {16, 256, 512, 1000};
+        expect_format(wrong[i], s, KERNELSUN_SHAPE);
+    }
+    make_fresh(&a, 16, 256, 512, 1000);
+    expect_refusal(&a, call_step(15), KERNELSUN_IDLE);
+    expect_refusal(&a, call_step(16), KERNELSUN_THREAD);
+    expect_refusal(&a, call_begin(16, KERNELSUN_READ, 0, 0), KERNELSUN_THREAD);
+}
+
+/* ---- shape ---- */
+
+/* Three threads: 0 idle, 1 with an open level, 2 idle. Two and four blocks. */
+static void make_with_open_level(area *a)
+{
+    make_fresh(a, 3, 2, 4, 2);
+    word_put(a->bytes, thread_word(1, THREAD_OP), KERNELSUN_LEVEL);
+    word_put(a->bytes, thread_word(1, THREAD_LINE), 1);
+}
+
+/* Well formed shows in what comes after SHAPE in the order of refusals. */
+static void expect_shape(area *a, int good)
+{
+    expect_refusal(a, call_step(0), good ? KERNELSUN_IDLE : KERNELSUN_SHAPE);
+    expect_refusal(a, call_begin(1, MOST, MOST, MOST), good ? KERNELSUN_BUSY : KERNELSUN_SHAPE);
+    expect_refusal(a, call_step(3), good ? KERNELSUN_THREAD : KERNELSUN_SHAPE);
+}
+
+static void expect_word_limit(size_t word, uint32_t most)
+{
+    static area a;
+    make_with_open_level(&a);
+    word_put(a.bytes, word, most);
+    expect_shape(&a, 1);
+    if (most != MOST) {
+        word_put(a.bytes, word, most + 1);
+        expect_shape(&a, 0);
+        word_put(a.bytes, word, MOST);
+        expect_shape(&a, 0);
+    }
+}
+
+static void check_word_limits(void)
+{
+    sizes s = {3, 2, 4, 2};
+    about("each word at its most and one more");
+    expect_word_limit(WORD_HEADER_LOCK, s.t);
+    expect_word_limit(WORD_HEADERS_OWNER, s.t);
+    expect_word_limit(thread_word(1, THREAD_OP), OPERATIONS);
+    expect_word_limit(thread_word(1, THREAD_N), s.n - 1);
+    expect_word_limit(thread_word(1, THREAD_C), MOST);
+    expect_word_limit(thread_word(1, THREAD_P), s.p - 1);
+    expect_word_limit(thread_word(1, THREAD_Q), s.p - 1);
+    expect_word_limit(thread_word(1, THREAD_H), s.n);
+    for (uint32_t n = 0; n < s.n; n++) {
+        expect_word_limit(map_word(&s, n), s.p);
+        expect_word_limit(lock_word(&s, n), s.t);
+    }
+    for (uint32_t p = 0; p < s.p; p++) {
+        expect_word_limit(block_word(&s, p, BLOCK_HEADER), s.n);
+        expect_word_limit(block_word(&s, p, BLOCK_CONTENT), MOST);
+        expect_word_limit(block_word(&s, p, BLOCK_WEAR), MOST);
+        expect_word_limit(block_word(&s, p, BLOCK_OWNER), s.t);
+    }
+}
+
+static void check_line_limits(void)
+{
+    static const uint32_t last[] = {0, 16, 6, 11, 18};
+    static area a;
+    about("line from 1 to the operation's last");
+    for (uint32_t op = 1; op <= OPERATIONS; op++) {
+        make_with_open_level(&a);
+        word_put(a.bytes, thread_word(1, THREAD_OP), op);
+        const edit lines[] = {{0, 0}, {1, 1}, {1, last[op]}, {0, last[op] + 1}, {0, MOST}};
+        for (size_t i = 0; i < COUNT(lines); i++) {
+            word_put(a.bytes, thread_word(1, THREAD_LINE), lines[i].value);
+            expect_shape(&a, lines[i].word == 1);
+        }
+    }
+}
+
+static void check_idle_records(void)
+{
+    static area a;
+    about("an idle record is seven zeros");
+    for (size_t field = THREAD_LINE; field < THREAD_WORDS; field++) {
+        for (uint32_t thread = 0; thread < 3; thread += 2) {
+            make_with_open_level(&a);
+            word_put(a.bytes, thread_word(thread, field), 1);
+            expect_shape(&a, 0);
+        }
+    }
+}
+
+/* Areas of all zeros but for sizes outside the limits, each of the exact length. */
+static void check_sizes_outside(void)
+{
+    static const sizes bad[] = {
+        {0, 1, 2, 1},     {17, 1, 2, 1},  {1, 0, 2, 1},     {1, 257, 258, 1}, {1, 1, 1, 1},
+        {1, 256, 256, 1}, {1, 1, 513, 1}, {1, 1, 2, 0},     {1, 1, 2, 1001},  {1, 1, 2, MOST},
+        {0, 0, 0, 0},
+    };
+    static area a;
+    about("sizes outside the limits in an area of exact length");
+    for (size_t i = 0; i < COUNT(bad); i++) {
+        make_fresh(&a, bad[i].t, bad[i].n, bad[i].p, bad[i].d);
+        expect_refusal(&a, call_step(0), KERNELSUN_SHAPE);
+        expect_refusal(&a, call_begin(0, KERNELSUN_LEVEL, 0, 0), KERNELSUN_SHAPE);
+    }
+}
+
+/* Sizes that are too large for the length, some of them only if 32 bits wrap. */
+static void check_sizes_against_length(void)
+{
+    static const edit wrong[] = {
+        {WORD_T, 1}, {WORD_T, 3}, {WORD_T, 0x40000002u}, {WORD_T, MOST}, {WORD_N, 2},
+        {WORD_N, 0x80000001u},    {WORD_N, MOST},        {WORD_P, 3},    {WORD_P, 512},
+        {WORD_P, 0x40000002u},    {WORD_P, 0x10000002u}, {WORD_P, MOST},
+    };
+    static area a;
+    about("sizes that don't agree with the length");
+    for (size_t i = 0; i < COUNT(wrong); i++) {
+        make_fresh(&a, 2, 1, 2, 1);
+        apply(&a, &wrong[i], 1);
+        expect_refusal(&a, call_step(0), KERNELSUN_SHAPE);
+        expect_refusal(&a, call_begin(0, KERNELSUN_LEVEL, 0, 0), KERNELSUN_SHAPE);
+    }
+}
+
+/* ---- refusals and their order ---- */
+
+static void check_begin_order(void)
+{
+    static area a;
+    about("begin: SHAPE, THREAD, BUSY, OPERATION, LOGICAL");
+    make_with_open_level(&a);
+    word_put(a.bytes, WORD_HEADER_LOCK, 4);
+    expect_refusal(&a, call_begin(3, 0, 2, 0), KERNELSUN_SHAPE);
+    expect_refusal(&a, call_begin(1, 0, 2, 0), KERNELSUN_SHAPE);
+    make_with_open_level(&a);
+    expect_refusal(&a, call_begin(3, 0, 2, 0), KERNELSUN_THREAD);
+    expect_refusal(&a, call_begin(MOST, KERNELSUN_READ, 0, 0), KERNELSUN_THREAD);
+    expect_refusal(&a, call_begin(1, 0, 2, 0), KERNELSUN_BUSY);
+    expect_refusal(&a, call_begin(1, KERNELSUN_READ, 0, 0), KERNELSUN_BUSY);
+    static const uint32_t no_operation[] = {0, 5, 6, 255, 256, 257, 0x80000001u, MOST};
+    for (size_t i = 0; i < COUNT(no_operation); i++) {
+        expect_refusal(&a, call_begin(0, no_operation[i], 2, 0), KERNELSUN_OPERATION);
+        expect_refusal(&a, call_begin(0, no_operation[i], 0, 0), KERNELSUN_OPERATION);
+    }
+    for (uint32_t op = KERNELSUN_WRITE; op <= KERNELSUN_UNMAP; op++) {
+        expect_refusal(&a, call_begin(0, op, 2, 1), KERNELSUN_LOGICAL);
+        expect_refusal(&a, call_begin(0, op, 0x80000000u, 1), KERNELSUN_LOGICAL);
+        expect_refusal(&a, call_begin(2, op, MOST, MOST), KERNELSUN_LOGICAL);
+    }
+}
+
+static void check_step_order(void)
+{
+    static area a;
+    about("step: SHAPE, THREAD, IDLE, then the line's own");
+    make_with_open_level(&a);
+    word_put(a.bytes, thread_word(0, THREAD_C), 1);
+    expect_refusal(&a, call_step(3), KERNELSUN_SHAPE);
+    expect_refusal(&a, call_step(1), KERNELSUN_SHAPE);
+    make_with_open_level(&a);
+    expect_refusal(&a, call_step(3), KERNELSUN_THREAD);
+    expect_refusal(&a, call_step(256), KERNELSUN_THREAD);
+    expect_refusal(&a, call_step(MOST), KERNELSUN_THREAD);
+    expect_refusal(&a, call_step(0), KERNELSUN_IDLE);
+    expect_refusal(&a, call_step(2), KERNELSUN_IDLE);
+    word_put(a.bytes, WORD_HEADER_LOCK, 3);
+    expect_refusal(&a, call_step(1), KERNELSUN_BLOCKED);
+    word_put(a.bytes, WORD_HEADER_LOCK, 2);
+    expect_refusal(&a, call_step(1), KERNELSUN_BLOCKED);
+    word_put(a.bytes, thread_word(1, THREAD_LINE), 2);
+    word_put(a.bytes, WORD_HEADERS_OWNER, 1);
+    expect_refusal(&a, call_step(1), KERNELSUN_FAULT);
+}
+
+/* What begin writes: operation, line 1, n and c where the operation has them. */
+static void expect_begun(uint32_t op, uint32_t n, uint32_t c, uint32_t kept_n, uint32_t kept_c)
+{
+    static area a;
+    for (uint32_t thread = 0; thread < 3; thread += 2) {
+        const edit record[] = {{thread_word(thread, THREAD_OP), op},
+                               {thread_word(thread, THREAD_LINE), 1},
+                               {thread_word(thread, THREAD_N), kept_n},
+                               {thread_word(thread, THREAD_C), kept_c}};
+        make_with_open_level(&a);
+        expect_changes(&a, call_begin(thread, op, n, c), KERNELSUN_WENT, 0, record, COUNT(record));
+    }
+}
+
+static void check_begun(void)
+{
+    about("what begin writes");
+    expect_begun(KERNELSUN_WRITE, 1, 7, 1, 7);
+    expect_begun(KERNELSUN_WRITE, 0, MOST, 0, MOST);
+    expect_begun(KERNELSUN_WRITE, 1, 0, 1, 0);
+    expect_begun(KERNELSUN_READ, 1, MOST, 1, 0);
+    expect_begun(KERNELSUN_UNMAP, 1, MOST, 1, 0);
+    expect_begun(KERNELSUN_LEVEL, 1, 7, 0, 0);
+    about("levelling takes any logical number");
+    expect_begun(KERNELSUN_LEVEL, 999, 0, 0, 0);
+    expect_begun(KERNELSUN_LEVEL, MOST, MOST, 0, 0);
+}
+
+/* ---- whole operations ---- */
+
+typedef struct {
+    uint32_t steps, value;
+} run;
+
+/* Begins and steps to the end. Any number that isn't WENT or FINISHED fails. */
+static run whole(area *a, uint32_t thread, uint32_t op, uint32_t n, uint32_t c)
+{
+    call start = call_begin(thread, op, n, c), next = call_step(thread);
+    run r = {0, 0};
+    expect_equal("begin", kernelsun_number(through_door(&start, a)), KERNELSUN_WENT);
+    uint64_t given = 0;
+    while (kernelsun_number(given) == KERNELSUN_WENT && r.steps < 2 * LINES_MOST) {
+        given = through_door(&next, a);
+        r.steps++;
+    }
+    expect_equal("number at the end", kernelsun_number(given), KERNELSUN_FINISHED);
+    r.value = kernelsun_value(given);
+    return r;
+}
+
+static void expect_whole(area *a, uint32_t op, uint32_t n, uint32_t c, uint32_t steps,
+                         uint32_t value)
+{
+    run r = whole(a, 0, op, n, c);
+    expect_equal("steps", r.steps, steps);
+    expect_equal("value", r.value, value);
+}
+
+static void expect_words(const area *a, const uint32_t *words, size_t count)
+{
+    expect_equal("words in the area", (uint32_t)(a->len / BYTES_IN_WORD), (uint32_t)count);
+    for (size_t i = 0; i < count; i++) {
+        if (word_get(a->bytes, i) != words[i]) {
+            sizes s = sizes_of(a->bytes);
+            print_word_name(&s, i);
+            expect_equal(" isn't as expected", word_get(a->bytes, i), words[i]);
+        }
+    }
+}
+
+static void check_step_counts(void)
+{
+    static area a;
+    make_fresh(&a, 2, 1, 2, 1);
+    about("read on fresh");
+    expect_whole(&a, KERNELSUN_READ, 0, 9, 3, 0);
+    about("level on fresh");
+    expect_whole(&a, KERNELSUN_LEVEL, 0, 0, 7, 0);
+    about("unmap of an unmapped number");
+    expect_whole(&a, KERNELSUN_UNMAP, 0, 0, 5, 0);
+    about("first write, and what it left");
+    expect_whole(&a, KERNELSUN_WRITE, 0, 5, 16, 0);
+    static const uint32_t written[30] = {2, 1, 2, 1, [20] = 1, [22] = 1, 5};
+    expect_words(&a, written, COUNT(written));
+    about("second write to the same number");
+    expect_whole(&a, KERNELSUN_WRITE, 0, MOST, 8, 0);
+    about("read of a mapped number");
+    expect_whole(&a, KERNELSUN_READ, 0, 0, 6, MOST);
+    about("unmap of a mapped number, and what it left");
+    expect_whole(&a, KERNELSUN_UNMAP, 0, 0, 11, 0);
+    static const uint32_t unmapped[30] = {2, 1, 2, 1, [23] = MOST, 1};
+    expect_words(&a, unmapped, COUNT(unmapped));
+    about("a written 0");
+    expect_whole(&a, KERNELSUN_WRITE, 0, 0, 16, 0);
+    expect_whole(&a, KERNELSUN_READ, 0, 0, 6, 0);
+}
+
+/* The levelling case of "Checked by hand", up to the first level. */
+static void make_levelling_case(area *a, uint32_t d)
+{
+    make_fresh(a, 1, 2, 3, d);
+    expect_whole(a, KERNELSUN_WRITE, 0, 7, 16, 0);
+    expect_whole(a, KERNELSUN_WRITE, 1, 9, 16, 0);
+    expect_whole(a, KERNELSUN_UNMAP, 0, 0, 11, 0);
+    expect_whole(a, KERNELSUN_WRITE, 0, 8, 16, 0);
+    expect_whole(a, KERNELSUN_UNMAP, 0, 0, 11, 0);
+}
+
+static void check_levelling_case(void)
+{
+    static area a;
+    about("the levelling case with D=2");
+    make_levelling_case(&a, 2);
+    static const uint32_t before[29] = {1, 2, 3, 2, [14] = 2, [18] = 8, 2, 0, 2, 9};
+    expect_words(&a, before, COUNT(before));
+    expect_whole(&a, KERNELSUN_LEVEL, 0, 0, 18, 1);
+    static const uint32_t after[29] = {1, 2, 3, 2, [14] = 1, [17] = 2, 9, 2, 0, 0, 9, 1};
+    expect_words(&a, after, COUNT(after));
+    expect_whole(&a, KERNELSUN_READ, 1, 0, 6, 9);
+    expect_whole(&a, KERNELSUN_READ, 0, 0, 3, 0);
+    about("a second level has nothing to move");
+    expect_whole(&a, KERNELSUN_LEVEL, 999, 0, 7, 0);
+    expect_words(&a, after, COUNT(after));
+    about("the levelling case with D=3 has nothing to move");
+    make_levelling_case(&a, 3);
+    expect_whole(&a, KERNELSUN_LEVEL, 0, 0, 7, 0);
+}
+
+/* ---- choosing ---- */
+
+enum { CHOICE_BLOCKS = 4 };
+
+typedef struct {
+    const char *what;
+    uint32_t d;
+    uint32_t header[CHOICE_BLOCKS], wear[CHOICE_BLOCKS];
+    uint32_t from, to;
+} choice;
+
+static const choice choices[] = {
+    {"nothing mapped, no wear", 1, {0, 0, 0, 0}, {0, 0, 0, 0}, 0, 0},
+    {"nothing mapped, tie of most", 1, {0, 0, 0, 0}, {1, 3, 3, 2}, 1, 1},
+    {"nothing mapped, most at the end", 1, {0, 0, 0, 0}, {1, 3, 3, 4}, 3, 3},
+    {"ties on both sides", 5, {1, 2, 0, 0}, {4, 4, 9, 9}, 0, 2},
+    {"ties on both sides, mapped last", 5, {0, 0, 1, 2}, {9, 9, 4, 4}, 2, 0},
+    {"one short of the distance", 6, {1, 2, 0, 0}, {4, 4, 9, 9}, 2, 2},
+    {"least mapped isn't the first", 2, {1, 2, 3, 0}, {5, 6, 1, 3}, 2, 3},
+    {"most free isn't the first", 2, {0, 1, 0, 2}, {3, 9, 4, 2}, 3, 2},
+    {"free blocks less worn", 1, {1, 0, 2, 0}, {8, 1, 9, 7}, 3, 3},
+    {"largest distance met", 1000, {1, 0, 0, 0}, {7, 1006, 1007, 0}, 0, 2},
+    {"largest distance missed", 1000, {1, 0, 0, 0}, {7, 1006, 1006, 0}, 1, 1},
+    {"both at most wear", 1, {1, 0, 0, 0}, {MOST, MOST, 0, 0}, 1, 1},
+    {"sum is the largest word", 5, {1, 0, 0, 0}, {MOST - 5, MOST, 0, 0}, 0, 1},
+    {"sum is one more than that", 6, {1, 0, 0, 0}, {MOST - 5, MOST, 0, 0}, 1, 1},
+    {"sum far beyond 32 bits", 1000, {1, 2, 0, 0}, {MOST, MOST, 2000, 3000}, 3, 3},
+    {"least against most", 1, {1, 2, 0, 0}, {MOST, 0, 0, MOST}, 1, 3},
+};
+
+static void check_choices(void)
+{
+    static area a;
+    sizes s = {1, 3, CHOICE_BLOCKS, 0};
+    for (size_t i = 0; i < COUNT(choices); i++) {
+        const choice *c = &choices[i];
+        about(c->what);
+        make_fresh(&a, s.t, s.n, s.p, c->d);
+        const edit at[] = {{WORD_HEADERS_OWNER, 1},
+                           {thread_word(0, THREAD_OP), KERNELSUN_LEVEL},
+                           {thread_word(0, THREAD_LINE), 3}};
+        apply(&a, at, COUNT(at));
+        for (uint32_t p = 0; p < CHOICE_BLOCKS; p++) {
+            word_put(a.bytes, block_word(&s, p, BLOCK_HEADER), c->header[p]);
+            word_put(a.bytes, block_word(&s, p, BLOCK_WEAR), c->wear[p]);
+        }
+        const edit chosen[] = {{thread_word(0, THREAD_LINE), 4},
+                               {thread_word(0, THREAD_P), c->from},
+                               {thread_word(0, THREAD_Q), c->to}};
+        expect_changes(&a, call_step(0), KERNELSUN_WENT, 0, chosen, COUNT(chosen));
+    }
+}
+
+/* ---- interleavings ---- */
+
+static void expect_steps(area *a, uint32_t thread, uint32_t count, uint32_t number)
+{
+    call c = call_step(thread);
+    for (uint32_t i = 0; i < count; i++) {
+        uint64_t given = through_door(&c, a);
+        expect_equal("number", kernelsun_number(given), number);
+        expect_equal("value", kernelsun_value(given), 0);
+    }
+}
+
+static void expect_begins(area *a, uint32_t thread, uint32_t op, uint32_t n, uint32_t c)
+{
+    call start = call_begin(thread, op, n, c);
+    expect_equal("begin", kernelsun_number(through_door(&start, a)), KERNELSUN_WENT);
+}
+
+static void check_second_reader_waits(void)
+{
+    static area a;
+    about("the document's nine-line example");
+    make_fresh(&a, 2, 1, 2, 1);
+    expect_begins(&a, 0, KERNELSUN_READ, 0, 9);
+    expect_begins(&a, 1, KERNELSUN_READ, 0, 0);
+    expect_steps(&a, 0, 1, KERNELSUN_WENT);
+    expect_refusal(&a, call_step(1), KERNELSUN_BLOCKED);
+    expect_steps(&a, 0, 1, KERNELSUN_WENT);
+    expect_steps(&a, 0, 1, KERNELSUN_FINISHED);
+    expect_steps(&a, 1, 1, KERNELSUN_WENT);
+    expect_refusal(&a, call_step(0), KERNELSUN_IDLE);
+}
+
+/* H is held from W1 to W12, so the second writer's block is another one. */
+static void check_second_writer_waits(void)
+{
+    static area a;
+    about("two writers that open new blocks at once");
+    make_fresh(&a, 2, 2, 3, 1);
+    expect_begins(&a, 0, KERNELSUN_WRITE, 0, 70);
+    expect_begins(&a, 1, KERNELSUN_WRITE, 1, 90);
+    for (uint32_t line = 1; line < 12; line++) {
+        expect_steps(&a, 0, 1, KERNELSUN_WENT);
+        expect_refusal(&a, call_step(1), KERNELSUN_BLOCKED);
+    }
+    expect_steps(&a, 0, 1, KERNELSUN_WENT);
+    for (uint32_t line = 1; line < 4; line++) {
+        expect_steps(&a, 1, 1, KERNELSUN_WENT);
+        expect_steps(&a, 0, 1, KERNELSUN_WENT);
+    }
+    expect_steps(&a, 0, 1, KERNELSUN_FINISHED);
+    expect_steps(&a, 1, 12, KERNELSUN_WENT);
+    expect_steps(&a, 1, 1, KERNELSUN_FINISHED);
+    static const uint32_t both[36] = {2, 2, 3, 1, [20] = 1, 2, [24] = 1, 70, 0, 0, 2, 90};
+    expect_words(&a, both, COUNT(both));
+}
+
+static void check_read_before_unmap_finishes(void)
+{
+    static area a;
+    about("after U10 a read finishes with empty while the unmap is open");
+    make_fresh(&a, 2, 1, 2, 1);
+    expect_whole(&a, KERNELSUN_WRITE, 0, 5, 16, 0);
+    expect_begins(&a, 1, KERNELSUN_UNMAP, 0, 0);
+    expect_steps(&a, 1, 9, KERNELSUN_WENT);
+    expect_begins(&a, 0, KERNELSUN_READ, 0, 0);
+    expect_refusal(&a, call_step(0), KERNELSUN_BLOCKED);
+    expect_steps(&a, 1, 1, KERNELSUN_WENT);
+    expect_steps(&a, 0, 2, KERNELSUN_WENT);
+    expect_steps(&a, 0, 1, KERNELSUN_FINISHED);
+    expect_steps(&a, 1, 1, KERNELSUN_FINISHED);
+}
+
+/* A leveller at L6 waits for the reader of the number it wants to move. */
+static void check_leveller_waits_for_reader(void)
+{
+    static area a;
+    about("a leveller waits at L6 for a reader, and a reader for the leveller");
+    make_levelling_case(&a, 2);
+    static area two;
+    make_fresh(&two, 2, 2, 3, 2);
+    memcpy(two.bytes + BYTES_IN_WORD * thread_word(2, 0),
+           a.bytes + BYTES_IN_WORD * thread_word(1, 0),
+           a.len - BYTES_IN_WORD * thread_word(1, 0));
+    expect_begins(&two, 0, KERNELSUN_READ, 1, 0);
+    expect_begins(&two, 1, KERNELSUN_LEVEL, 0, 0);
+    expect_steps(&two, 0, 1, KERNELSUN_WENT);
+    expect_steps(&two, 1, 5, KERNELSUN_WENT);
+    expect_refusal(&two, call_step(1), KERNELSUN_BLOCKED);
+    expect_steps(&two, 0, 4, KERNELSUN_WENT);
+    call last = call_step(0);
+    expect_equal("value read", kernelsun_value(through_door(&last, &two)), 9);
+    expect_steps(&two, 1, 1, KERNELSUN_WENT);
+    expect_begins(&two, 0, KERNELSUN_READ, 1, 0);
+    expect_refusal(&two, call_step(0), KERNELSUN_BLOCKED);
+    expect_steps(&two, 1, 10, KERNELSUN_WENT);
+    expect_steps(&two, 0, 5, KERNELSUN_WENT);
+    expect_equal("value read after the move", kernelsun_value(through_door(&last, &two)), 9);
+}
+
+/* ---- the largest store ---- */
+
+static void check_largest_store(void)
+{
+    static area a;
+    sizes s = {16, 256, 512, 1000};
+    about("the largest store: its last thread, numbers and blocks");
+    make_fresh(&a, s.t, s.n, s.p, s.d);
+    for (uint32_t n = 256; n-- > 0;) {
+        run r = whole(&a, 15, KERNELSUN_WRITE, n, n * 3 + 1);
+        expect_equal("steps", r.steps, 16);
+    }
+    for (uint32_t n = 0; n < 256; n++) {
+        expect_equal("map", word_get(a.bytes, map_word(&s, n)), 256 - n);
+        expect_equal("value", whole(&a, 7, KERNELSUN_READ, n, 0).value, n * 3 + 1);
+    }
+    word_put(a.bytes, block_word(&s, 511, BLOCK_WEAR), 1000);
+    expect_equal("level", whole(&a, 15, KERNELSUN_LEVEL, 0, 0).value, 1);
+    expect_equal("map of 255", word_get(a.bytes, map_word(&s, 255)), 512);
+    expect_equal("value of 255", whole(&a, 0, KERNELSUN_READ, 255, 0).value, 766);
+    expect_equal("wear of 0", word_get(a.bytes, block_word(&s, 0, BLOCK_WEAR)), 1);
+}
+
+static void check_format_and_shape(void)
+{
+    check_limits_accepted();
+    check_limits_refused();
+    check_lengths();
+    check_longest();
+    check_word_limits();
+    check_line_limits();
+    check_idle_records();
+    check_sizes_outside();
+    check_sizes_against_length();
+}
+
+int main(void)
+{
+    check_format_and_shape();
+    check_begin_order();
+    check_step_order();
+    check_begun();
+    check_step_counts();
+    check_levelling_case();
+    check_choices();
+    check_second_reader_waits();
+    check_second_writer_waits();
+    check_read_before_unmap_finishes();
+    check_leveller_waits_for_reader();
+    check_largest_store();
+    return all_met("door");
+}

@@ -1,0 +1,261 @@
+/*
+ * Each of the 51 lines by itself, on areas made by hand: what it changes when
+ * its needs are met, and that it gives FAULT (a take: BLOCKED) and changes
+ * nothing when one of them isn't. The table below is to be laid beside
+ * document 01, "The lines". It was written from there and not computed.
+ *
+ * The base area holds no lock and no owner. A row's needs are put in place and
+ * nothing more, so a line that asks for more than the document says fails too.
+ */
+#include "expect.h"
+
+#define COUNT(array) (sizeof(array) / sizeof((array)[0]))
+#define MOST 0xffffffffu
+
+/* Three threads of which thread 1 steps, two logical and four physical blocks. */
+enum { T = 3, N = 2, P = 4, D = 2, STEPPER = 1, MINE = STEPPER + 1 };
+
+/* The words of that area, and the registers of thread 1. */
+enum {
+    LOCK_H = 4,
+    HEADERS = 5,
+    OP = 13,
+    LINE,
+    REG_N,
+    REG_C,
+    REG_P,
+    REG_Q,
+    REG_H,
+    MAP0 = 27,
+    MAP1,
+    LOCK0,
+    LOCK1,
+    HEADER0 = 31, CONTENT0, WEAR0, OWNER0,
+    HEADER1, CONTENT1, WEAR1, OWNER1,
+    HEADER2, CONTENT2, WEAR2, OWNER2,
+    HEADER3, CONTENT3, WEAR3, OWNER3
+};
+
+/* Thread 1 has n = 1, c = 77, p = 2, q = 3, h = 2 (number 1). */
+static const edit base[] = {
+    {REG_N, 1},   {REG_C, 77},     {REG_P, 2},  {REG_Q, 3},     {REG_H, 2},     {MAP0, 1},
+    {MAP1, 3},    {HEADER0, 1},    {WEAR0, 5},  {CONTENT0, 50}, {CONTENT1, 51}, {WEAR1, 6},
+    {HEADER2, 2}, {CONTENT2, 52},  {WEAR2, 1},  {CONTENT3, 53}, {WEAR3, 9},
+};
+
+typedef enum {
+    NO_NEED,
+    FREE_LOCK,  /* to take it: else BLOCKED, by itself included */
+    NO_OWNER,   /* to own it */
+    HELD,       /* by this thread, a lock or an owner */
+    USED,       /* a header that isn't free */
+    FREE_BLOCK  /* some block with a free header */
+} need_kind;
+
+typedef struct {
+    need_kind kind;
+    size_t word;
+} need;
+
+enum { NEEDS_MOST = 2, EDITS_MOST = 4 };
+
+/* Unused edits have word 0, which is T and is never edited. */
+typedef struct {
+    uint32_t op, line;
+    const char *what;
+    need needs[NEEDS_MOST];
+    edit setup[EDITS_MOST];
+    uint32_t next;  /* the line that follows, 0 for finish */
+    uint32_t value; /* the finishing value */
+    edit changes[EDITS_MOST];
+} row;
+
+static const row rows[] = {
+    {1, 1, "W1", {{FREE_LOCK, LOCK_H}}, {{0, 0}}, 2, 0, {{LOCK_H, MINE}}},
+    {1, 2, "W2", {{FREE_LOCK, LOCK1}}, {{0, 0}}, 3, 0, {{LOCK1, MINE}}},
+    {1, 3, "W3 mapped", {{NO_NEED, 0}}, {{MAP1, 1}}, 12, 0, {{REG_P, 0}}},
+    {1, 3, "W3 unmapped", {{NO_NEED, 0}}, {{MAP1, 0}}, 4, 0, {{0, 0}}},
+    {1, 4, "W4", {{NO_OWNER, HEADERS}}, {{0, 0}}, 5, 0, {{HEADERS, MINE}}},
+    {1, 5, "W5", {{HELD, HEADERS}, {FREE_BLOCK, 0}}, {{0, 0}}, 6, 0, {{REG_P, 1}}},
+    {1, 5, "W5 last block", {{HELD, HEADERS}}, {{HEADER1, 1}}, 6, 0, {{REG_P, 3}}},
+    {1, 5, "W5 first block, owned", {{HELD, HEADERS}}, {{HEADER0, 0}, {OWNER0, 1}}, 6, 0,
+     {{REG_P, 0}}},
+    {1, 6, "W6", {{NO_OWNER, OWNER2}}, {{0, 0}}, 7, 0, {{OWNER2, MINE}}},
+    {1, 7, "W7", {{HELD, HEADERS}, {HELD, OWNER2}}, {{HEADER2, 0}}, 8, 0, {{HEADER2, 2}}},
+    {1, 7, "W7 used block", {{HELD, HEADERS}, {HELD, OWNER2}}, {{HEADER2, 1}}, 8, 0,
+     {{HEADER2, 2}}},
+    {1, 8, "W8", {{HELD, OWNER2}, {USED, HEADER2}}, {{0, 0}}, 9, 0, {{CONTENT2, 0}}},
+    {1, 9, "W9", {{HELD, OWNER2}}, {{0, 0}}, 10, 0, {{OWNER2, 0}}},
+    {1, 10, "W10", {{NO_NEED, 0}}, {{MAP1, 0}}, 11, 0, {{MAP1, 3}}},
+    {1, 11, "W11", {{HELD, HEADERS}}, {{0, 0}}, 12, 0, {{HEADERS, 0}}},
+    {1, 12, "W12", {{HELD, LOCK_H}}, {{0, 0}}, 13, 0, {{LOCK_H, 0}}},
+    {1, 13, "W13", {{NO_OWNER, OWNER2}}, {{0, 0}}, 14, 0, {{OWNER2, MINE}}},
+    {1, 14, "W14", {{HELD, OWNER2}, {USED, HEADER2}}, {{0, 0}}, 15, 0, {{CONTENT2, 77}}},
+    {1, 15, "W15", {{HELD, OWNER2}}, {{0, 0}}, 16, 0, {{OWNER2, 0}}},
+    {1, 16, "W16", {{HELD, LOCK1}}, {{0, 0}}, 0, 0, {{LOCK1, 0}}},
+
+    {2, 1, "R1", {{FREE_LOCK, LOCK1}}, {{0, 0}}, 2, 0, {{LOCK1, MINE}}},
+    {2, 2, "R2 unmapped", {{NO_NEED, 0}}, {{MAP1, 0}}, 6, 0, {{REG_C, 0}}},
+    {2, 2, "R2 mapped", {{NO_NEED, 0}}, {{MAP1, 1}}, 3, 0, {{REG_P, 0}}},
+    {2, 3, "R3", {{NO_OWNER, OWNER2}}, {{0, 0}}, 4, 0, {{OWNER2, MINE}}},
+    {2, 4, "R4", {{HELD, OWNER2}, {USED, HEADER2}}, {{0, 0}}, 5, 0, {{REG_C, 52}}},
+    {2, 5, "R5", {{HELD, OWNER2}}, {{0, 0}}, 6, 0, {{OWNER2, 0}}},
+    {2, 6, "R6", {{HELD, LOCK1}}, {{0, 0}}, 0, 77, {{LOCK1, 0}}},
+    {2, 6, "R6 with the largest word", {{HELD, LOCK1}}, {{REG_C, MOST}}, 0, MOST, {{LOCK1, 0}}},
+
+    {3, 1, "U1", {{FREE_LOCK, LOCK_H}}, {{0, 0}}, 2, 0, {{LOCK_H, MINE}}},
+    {3, 2, "U2", {{FREE_LOCK, LOCK1}}, {{0, 0}}, 3, 0, {{LOCK1, MINE}}},
+    {3, 3, "U3 unmapped", {{NO_NEED, 0}}, {{MAP1, 0}}, 10, 0, {{0, 0}}},
+    {3, 3, "U3 mapped", {{NO_NEED, 0}}, {{MAP1, 1}}, 4, 0, {{REG_P, 0}}},
+    {3, 4, "U4", {{NO_OWNER, HEADERS}}, {{0, 0}}, 5, 0, {{HEADERS, MINE}}},
+    {3, 5, "U5", {{NO_OWNER, OWNER2}}, {{0, 0}}, 6, 0, {{OWNER2, MINE}}},
+    {3, 6, "U6", {{NO_NEED, 0}}, {{0, 0}}, 7, 0, {{MAP1, 0}}},
+    {3, 7, "U7", {{HELD, HEADERS}, {HELD, OWNER2}}, {{0, 0}}, 8, 0, {{HEADER2, 0}, {WEAR2, 2}}},
+    {3, 7, "U7 free block", {{HELD, HEADERS}, {HELD, OWNER2}}, {{HEADER2, 0}}, 8, 0, {{WEAR2, 2}}},
+    {3, 7, "U7 up to most wear", {{HELD, HEADERS}, {HELD, OWNER2}}, {{WEAR2, MOST - 1}}, 8, 0,
+     {{HEADER2, 0}, {WEAR2, MOST}}},
+    {3, 7, "U7 at most wear", {{HELD, HEADERS}, {HELD, OWNER2}}, {{WEAR2, MOST}}, 8, 0,
+     {{HEADER2, 0}}},
+    {3, 8, "U8", {{HELD, OWNER2}}, {{0, 0}}, 9, 0, {{OWNER2, 0}}},
+    {3, 9, "U9", {{HELD, HEADERS}}, {{0, 0}}, 10, 0, {{HEADERS, 0}}},
+    {3, 10, "U10", {{HELD, LOCK1}}, {{0, 0}}, 11, 0, {{LOCK1, 0}}},
+    {3, 11, "U11", {{HELD, LOCK_H}}, {{0, 0}}, 0, 0, {{LOCK_H, 0}}},
+
+    {4, 1, "L1", {{FREE_LOCK, LOCK_H}}, {{0, 0}}, 2, 0, {{LOCK_H, MINE}}},
+    {4, 2, "L2", {{NO_OWNER, HEADERS}}, {{0, 0}}, 3, 0, {{HEADERS, MINE}}},
+    {4, 3, "L3", {{HELD, HEADERS}, {FREE_BLOCK, 0}}, {{REG_P, 1}, {REG_Q, 1}}, 4, 0,
+     {{REG_P, 2}, {REG_Q, 3}}},
+    {4, 4, "L4", {{HELD, HEADERS}}, {{HEADER2, 1}}, 5, 0, {{REG_H, 1}}},
+    {4, 4, "L4 free block, owned", {{HELD, HEADERS}}, {{HEADER2, 0}, {OWNER2, 1}}, 5, 0,
+     {{REG_H, 0}}},
+    {4, 5, "L5 free", {{NO_NEED, 0}}, {{REG_H, 0}}, 17, 0, {{0, 0}}},
+    {4, 5, "L5 not free", {{NO_NEED, 0}}, {{REG_H, 1}}, 6, 0, {{REG_N, 0}}},
+    {4, 6, "L6", {{FREE_LOCK, LOCK1}}, {{0, 0}}, 7, 0, {{LOCK1, MINE}}},
+    {4, 7, "L7", {{NO_OWNER, OWNER2}}, {{0, 0}}, 8, 0, {{OWNER2, MINE}}},
+    {4, 8, "L8", {{HELD, OWNER2}, {USED, HEADER2}}, {{0, 0}}, 9, 0, {{REG_C, 52}}},
+    {4, 9, "L9", {{NO_OWNER, OWNER3}}, {{0, 0}}, 10, 0, {{OWNER3, MINE}}},
+    {4, 10, "L10", {{HELD, HEADERS}, {HELD, OWNER3}}, {{0, 0}}, 11, 0, {{HEADER3, 2}}},
+    {4, 10, "L10 with h free", {{HELD, HEADERS}, {HELD, OWNER3}}, {{REG_H, 0}, {HEADER3, 1}}, 11, 0,
+     {{HEADER3, 0}}},
+    {4, 11, "L11", {{HELD, OWNER3}, {USED, HEADER3}}, {{HEADER3, 2}}, 12, 0, {{CONTENT3, 77}}},
+    {4, 12, "L12", {{NO_NEED, 0}}, {{0, 0}}, 13, 0, {{MAP1, 4}}},
+    {4, 13, "L13", {{HELD, HEADERS}, {HELD, OWNER2}}, {{0, 0}}, 14, 0, {{HEADER2, 0}, {WEAR2, 2}}},
+    {4, 13, "L13 up to most wear", {{HELD, HEADERS}, {HELD, OWNER2}}, {{WEAR2, MOST - 1}}, 14, 0,
+     {{HEADER2, 0}, {WEAR2, MOST}}},
+    {4, 13, "L13 at most wear", {{HELD, HEADERS}, {HELD, OWNER2}}, {{WEAR2, MOST}}, 14, 0,
+     {{HEADER2, 0}}},
+    {4, 14, "L14", {{HELD, OWNER3}}, {{0, 0}}, 15, 0, {{OWNER3, 0}}},
+    {4, 15, "L15", {{HELD, OWNER2}}, {{0, 0}}, 16, 0, {{OWNER2, 0}}},
+    {4, 16, "L16", {{HELD, LOCK1}}, {{0, 0}}, 17, 0, {{LOCK1, 0}}},
+    {4, 17, "L17", {{HELD, HEADERS}}, {{0, 0}}, 18, 0, {{HEADERS, 0}}},
+    {4, 18, "L18 moved", {{HELD, LOCK_H}}, {{0, 0}}, 0, 1, {{LOCK_H, 0}}},
+    {4, 18, "L18 nothing moved", {{HELD, LOCK_H}}, {{REG_H, 0}}, 0, 0, {{LOCK_H, 0}}},
+};
+
+static void apply_used(area *a, const edit edits[EDITS_MOST])
+{
+    for (size_t i = 0; i < EDITS_MOST && edits[i].word != 0; i++) {
+        apply(a, &edits[i], 1);
+    }
+}
+
+/* The area in which the row's line goes. */
+static void make_ready(area *a, const row *r)
+{
+    make_fresh(a, T, N, P, D);
+    apply(a, base, COUNT(base));
+    const edit at[] = {{OP, r->op}, {LINE, r->line}};
+    apply(a, at, COUNT(at));
+    apply_used(a, r->setup);
+    for (size_t i = 0; i < NEEDS_MOST; i++) {
+        if (r->needs[i].kind == HELD) {
+            word_put(a->bytes, r->needs[i].word, MINE);
+        }
+    }
+}
+
+static void check_goes(const row *r)
+{
+    area a, after;
+    make_ready(&a, r);
+    after = a;
+    apply_used(&after, r->changes);
+    if (r->next != 0) {
+        word_put(after.bytes, LINE, r->next);
+        expect_area(&a, call_step(STEPPER), KERNELSUN_WENT, 0, &after);
+        return;
+    }
+    for (size_t word = OP; word <= REG_H; word++) {
+        word_put(after.bytes, word, 0);
+    }
+    expect_area(&a, call_step(STEPPER), KERNELSUN_FINISHED, r->value, &after);
+}
+
+static void check_refused_with(const row *r, uint32_t number, size_t word, uint32_t value)
+{
+    area a;
+    make_ready(&a, r);
+    word_put(a.bytes, word, value);
+    expect_refusal(&a, call_step(STEPPER), number);
+}
+
+static void check_no_free_block(const row *r)
+{
+    static const edit all_used[] = {{HEADER0, 1}, {HEADER1, 2}, {HEADER2, 2}, {HEADER3, 1}};
+    area a;
+    make_ready(&a, r);
+    apply(&a, all_used, COUNT(all_used));
+    expect_refusal(&a, call_step(STEPPER), KERNELSUN_FAULT);
+}
+
+/* Breaks one need in each way that there is: 0 is free, 1 to 3 the three threads. */
+static void check_need(const row *r, const need *n)
+{
+    for (uint32_t value = 0; value <= T; value++) {
+        if (n->kind == FREE_LOCK && value != 0) {
+            check_refused_with(r, KERNELSUN_BLOCKED, n->word, value);
+        }
+        if (n->kind == NO_OWNER && value != 0) {
+            check_refused_with(r, KERNELSUN_FAULT, n->word, value);
+        }
+        if (n->kind == HELD && value != MINE) {
+            check_refused_with(r, KERNELSUN_FAULT, n->word, value);
+        }
+    }
+    if (n->kind == USED) {
+        check_refused_with(r, KERNELSUN_FAULT, n->word, 0);
+    }
+    if (n->kind == FREE_BLOCK) {
+        check_no_free_block(r);
+    }
+}
+
+/* Guards the table itself: 51 lines, none left out. */
+static void check_table_is_whole(void)
+{
+    uint32_t lines = 0;
+    about("the table has a row for each line");
+    for (uint32_t op = 1; op <= OPERATIONS; op++) {
+        for (uint32_t line = 1; line <= last_line(op); line++) {
+            size_t i = 0;
+            while (i < COUNT(rows) && (rows[i].op != op || rows[i].line != line)) {
+                i++;
+            }
+            lines += i < COUNT(rows);
+        }
+    }
+    expect_equal("lines", lines, 51);
+}
+
+int main(void)
+{
+    check_table_is_whole();
+    for (size_t i = 0; i < COUNT(rows); i++) {
+        about(rows[i].what);
+        check_goes(&rows[i]);
+        for (size_t k = 0; k < NEEDS_MOST; k++) {
+            check_need(&rows[i], &rows[i].needs[k]);
+        }
+    }
+    return all_met("door_lines");
+}

@@ -1,0 +1,207 @@
+/*
+ * See kit.h. The guarded room is a run of pages between two pages without any
+ * access: a door that reads or writes beyond the area is stopped by the
+ * processor on one side and found by the guard bytes on the other.
+ */
+#define _DEFAULT_SOURCE
+#include "kit.h"
+
+#include <stdio.h>
+#include <stdlib.h>
+#include <string.h>
+#include <sys/mman.h>
+
+enum { PAGE = 4096, ROOM_PAGES = 4, ROOM = PAGE * ROOM_PAGES, GUARD_BYTES = 64, GUARD = 0xa5 };
+
+/* Up against the upper page, the lower page, and three odd addresses. */
+enum { PLACE_UPPER, PLACE_LOWER, PLACE_ODD, PLACES = PLACE_ODD + 3 };
+
+call call_format(uint32_t t, uint32_t n, uint32_t p, uint32_t d)
+{
+    call c = {CALL_FORMAT, {t, n, p, d}};
+    return c;
+}
+
+call call_begin(uint32_t thread, uint32_t op, uint32_t n, uint32_t c_word)
+{
+    call c = {CALL_BEGIN, {thread, op, n, c_word}};
+    return c;
+}
+
+call call_step(uint32_t thread)
+{
+    call c = {CALL_STEP, {thread, 0, 0, 0}};
+    return c;
+}
+
+/* ---- The guarded room ---- */
+
+static uint8_t *make_room(void)
+{
+    uint8_t *pages = mmap(NULL, ROOM + 2 * PAGE, PROT_NONE, MAP_PRIVATE | MAP_ANONYMOUS, -1, 0);
+    if (pages == MAP_FAILED || mprotect(pages + PAGE, ROOM, PROT_READ | PROT_WRITE) != 0) {
+        perror("no room for the area");
+        exit(2);
+    }
+    return pages + PAGE;
+}
+
+static uint8_t *place_in(uint8_t *room, size_t len)
+{
+    static unsigned turn;
+    unsigned place = turn++ % PLACES;
+    if (place == PLACE_UPPER) {
+        return room + ROOM - len;
+    }
+    if (place == PLACE_LOWER) {
+        return room;
+    }
+    return room + GUARD_BYTES + (place - PLACE_ODD) + 1;
+}
+
+/* How many guard bytes there are between two addresses. */
+static size_t guards(const uint8_t *from, const uint8_t *to)
+{
+    size_t there = (size_t)(to - from);
+    return there < GUARD_BYTES ? there : GUARD_BYTES;
+}
+
+static void check_guards(const uint8_t *from, size_t count, const call *c, const char *side)
+{
+    for (size_t i = 0; i < count; i++) {
+        if (from[i] != GUARD) {
+            printf("a byte %s the area was changed by ", side);
+            print_call(c);
+            printf("\n");
+            exit(1);
+        }
+    }
+}
+
+static uint64_t make_call(const call *c, uint8_t *at, size_t len)
+{
+    const uint32_t *a = c->argument;
+    switch (c->which) {
+    case CALL_FORMAT: return format(at, len, a[0], a[1], a[2], a[3]);
+    case CALL_BEGIN: return begin(at, len, a[0], a[1], a[2], a[3]);
+    default: return step(at, len, a[0]);
+    }
+}
+
+uint64_t through_door(const call *c, area *a)
+{
+    static uint8_t *room;
+    if (room == NULL) {
+        room = make_room();
+    }
+    uint8_t *at = place_in(room, a->len);
+    size_t before = guards(room, at), after = guards(at + a->len, room + ROOM);
+    memset(at - before, GUARD, before);
+    memset(at + a->len, GUARD, after);
+    memcpy(at, a->bytes, a->len);
+    uint64_t r = make_call(c, at, a->len);
+    memcpy(a->bytes, at, a->len);
+    check_guards(at - before, before, c, "before");
+    check_guards(at + a->len, after, c, "after");
+    return r;
+}
+
+/* ---- Names ---- */
+
+label line_label(uint32_t op, uint32_t line)
+{
+    static const char letters[] = "?WRUL";
+    label l;
+    snprintf(l.text, sizeof l.text, "%c%u", op <= OPERATIONS ? letters[op] : '?',
+             (unsigned)line % 1000u);
+    return l;
+}
+
+const char *number_name(uint32_t number)
+{
+    switch (number) {
+    case KERNELSUN_WENT: return "WENT";
+    case KERNELSUN_FINISHED: return "FINISHED";
+    case KERNELSUN_BLOCKED: return "BLOCKED";
+    case KERNELSUN_SHAPE: return "SHAPE";
+    case KERNELSUN_THREAD: return "THREAD";
+    case KERNELSUN_BUSY: return "BUSY";
+    case KERNELSUN_IDLE: return "IDLE";
+    case KERNELSUN_LOGICAL: return "LOGICAL";
+    case KERNELSUN_OPERATION: return "OPERATION";
+    case KERNELSUN_FAULT: return "FAULT";
+    case KERNELSUN_LIMITS: return "LIMITS";
+    default: return "no number of the table";
+    }
+}
+
+void print_call(const call *c)
+{
+    const uint32_t *a = c->argument;
+    switch (c->which) {
+    case CALL_FORMAT:
+        printf("format(t %u, n %u, p %u, d %u)", (unsigned)a[0], (unsigned)a[1], (unsigned)a[2],
+               (unsigned)a[3]);
+        break;
+    case CALL_BEGIN:
+        printf("begin(thread %u, op %u, n %u, c %u)", (unsigned)a[0], (unsigned)a[1],
+               (unsigned)a[2], (unsigned)a[3]);
+        break;
+    default: printf("step(thread %u)", (unsigned)a[0]);
+    }
+}
+
+void print_result(uint64_t r)
+{
+    printf("%u (%s) with %u", (unsigned)kernelsun_number(r), number_name(kernelsun_number(r)),
+           (unsigned)kernelsun_value(r));
+}
+
+static void print_record_word(const char *what, const char *const names[], size_t words,
+                              size_t offset)
+{
+    printf("%s %u %s", what, (unsigned)(offset / words), names[offset % words]);
+}
+
+void print_word_name(const sizes *s, size_t index)
+{
+    static const char *const head[] = {"T", "N", "P", "D", "header lock", "headers' owner"};
+    static const char *const thread[] = {"operation", "line", "n", "c", "p", "q", "h"};
+    static const char *const block[] = {"header", "content", "wear", "owner"};
+    if (index < HEAD_WORDS) {
+        printf("%s", head[index]);
+    } else if (index < map_word(s, 0)) {
+        print_record_word("thread", thread, THREAD_WORDS, index - HEAD_WORDS);
+    } else if (index < lock_word(s, 0)) {
+        printf("map %u", (unsigned)(index - map_word(s, 0)));
+    } else if (index < block_word(s, 0, 0)) {
+        printf("block lock %u", (unsigned)(index - lock_word(s, 0)));
+    } else {
+        print_record_word("block", block, BLOCK_WORDS, index - block_word(s, 0, 0));
+    }
+}
+
+void print_differences(const area *before, const char *left_name, const area *left,
+                       const char *right_name, const area *right)
+{
+    size_t words = left->len / BYTES_IN_WORD;
+    sizes s = {0, 0, 0, 0};
+    if (words >= HEAD_WORDS) {
+        s = sizes_of(right->bytes);
+    }
+    for (size_t i = 0; i < words; i++) {
+        uint32_t l = word_get(left->bytes, i), r = word_get(right->bytes, i);
+        if (l != r) {
+            printf("  word %u, ", (unsigned)i);
+            print_word_name(&s, i);
+            printf(": before %u, %s %u, %s %u\n", (unsigned)word_get(before->bytes, i), left_name,
+                   (unsigned)l, right_name, (unsigned)r);
+        }
+    }
+    for (size_t i = words * BYTES_IN_WORD; i < left->len; i++) {
+        if (left->bytes[i] != right->bytes[i]) {
+            printf("  byte %u: %s %u, %s %u\n", (unsigned)i, left_name, left->bytes[i], right_name,
+                   right->bytes[i]);
+        }
+    }
+}

@@ -1,0 +1,64 @@
+/*
+ * What the tests of the door share: a call as a thing that can be kept and
+ * printed, the way through the door with guards around the area, and names for
+ * numbers and words so that a failure can be read.
+ */
+#ifndef KERNELSUN_TESTS_KIT_H
+#define KERNELSUN_TESTS_KIT_H
+
+#include <stddef.h>
+#include <stdint.h>
+
+#include "kernelsun.h"
+#include "layout.h"
+
+/* Room for the longest area and for lengths well beyond it. */
+enum { AREA_ROOM = 16000 };
+
+typedef struct {
+    uint8_t bytes[AREA_ROOM];
+    size_t len;
+} area;
+
+enum { CALL_FORMAT, CALL_BEGIN, CALL_STEP, CALLS };
+
+typedef struct {
+    int which;
+    uint32_t argument[4]; /* in the order of the prototypes; the unused ones 0 */
+} call;
+
+call call_format(uint32_t t, uint32_t n, uint32_t p, uint32_t d);
+call call_begin(uint32_t thread, uint32_t op, uint32_t n, uint32_t c);
+call call_step(uint32_t thread);
+
+/*
+ * Makes the call through the door. The area is put at a place that changes from
+ * call to call: up against a page that cannot be touched at its end or its
+ * start, or at an odd address. Bytes around it are checked afterwards; a
+ * changed one ends the test program.
+ */
+uint64_t through_door(const call *c, area *a);
+
+/* A line's label as in document 01: "W5", "L18". */
+typedef struct {
+    char text[8];
+} label;
+label line_label(uint32_t op, uint32_t line);
+
+const char *number_name(uint32_t number);
+
+/* "step(thread 1)" and so on, and "FINISHED with 7", without a newline. */
+void print_call(const call *c);
+void print_result(uint64_t r);
+
+/* The word of that index by its name, for an area with those sizes. */
+void print_word_name(const sizes *s, size_t index);
+
+/*
+ * The words in which two areas of one length differ, with what stood there
+ * before: one line a word, bytes beyond the last whole word as they are.
+ */
+void print_differences(const area *before, const char *left_name, const area *left,
+                       const char *right_name, const area *right);
+
+#endif

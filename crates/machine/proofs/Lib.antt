@@ -1,0 +1,2 @@
+-- The laws that the machine's proofs cite.
+pub mod Search

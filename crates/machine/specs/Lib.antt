@@ -1,0 +1,2 @@
+-- What the contracts between the machine's own functions cite.
+pub mod Judging

@@ -1,2 +1,3 @@
 -- The laws that the machine's proofs cite.
 pub mod Search
+pub mod Registers

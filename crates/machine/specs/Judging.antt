@@ -1,6 +1,8 @@
 -- What the functions that judge a step take for granted, and the store that they are given as words and arrays.
 use mathlib.Core.List.{List}
 use mathlib.Core.Path.{_≡_}
+use mathlib.Core.Bool.{Bool}
+use lib.Dec.{ltb}
 use Prim.Native.Nat.{ℕ, _<_, _≤_}
 use Rattle.meaning.specs.declared.Thread.{Thread}
 use Rattle.meaning.specs.declared.Found.{Found}
@@ -10,9 +12,12 @@ use Rattle.meaning.specs.Store.{Store}
 use Rattle.meaning.specs.Programs.{LEVEL, lastLine}
 use Rattle.meaning.specs.declared.Verdict.{Verdict}
 use Rattle.meaning.specs.declared.Verdict.the-variants.{Fault}
-use Rattle.meaning.specs.Choosing.{toBlock, leastWorn, fromBlock}
-use Rattle.meaning.specs.Step.{next, setP, setQ, nothing}
-use Rattle.store.specs.Live.{table}
+use Rattle.meaning.specs.declared.Reg.{Reg}
+use Rattle.meaning.specs.declared.Reg.the-variants.{P, Q}
+use Rattle.meaning.specs.Holding.{heldBy}
+use Rattle.meaning.specs.Choosing.{lowestFree, toBlock, leastWorn, fromBlock}
+use Rattle.meaning.specs.Step.{need, next, setP, setQ, nothing}
+use Rattle.machine.specs.declared.Near.{Near}
 
 -- the block that was found, 0 for none
 abbrev pub placeOf : Found → ℕ
@@ -27,30 +32,38 @@ chosenBy wear distance r (At to) from = next (setQ to (setP (fromBlock wear dist
 abbrev pub chosenOf : (ℕ → ℕ) → (ℕ → ℕ) → ℕ → ℕ → Thread → Verdict
 chosenOf header wear blocks distance r = chosenBy wear distance r (toBlock header wear blocks) (leastWorn header wear blocks)
 
--- the store with these words and arrays; what a line doesn't look at may be anything
-abbrev pub given : ℕ → ℕ → (ℕ → Thread) → ℕ → ℕ → ℕ → ℕ → List ℕ → List ℕ → List ℕ → List ℕ → List ℕ → List ℕ → Store
-given threads numbers thread blocks distance lock owner map locks header content wear own =
-    record {
-      threads = threads;
-      numbers = numbers;
-      blocks = blocks;
-      distance = distance;
-      lock = lock;
-      owner = owner;
-      thread = thread;
-      map = table map;
-      locks = table locks;
-      header = table header;
-      content = table content;
-      wear = table wear;
-      own = table own
-    }
+-- the words of store s that a line of record r may look at, the searches' tables left out
+pub record Sees (s : Store) (r : Thread) (x : Near) : Type 0 where
+  pub lock : x .lock ≡ s .lock
+  pub owner : x .owner ≡ s .owner
+  pub map : x .map ≡ s .map (r .n)
+  pub locks : x .locks ≡ s .locks (r .n)
+  pub header-p : x .«header_p» ≡ s .header (r .p)
+  pub header-q : x .«header_q» ≡ s .header (r .q)
+  pub content-p : x .«content_p» ≡ s .content (r .p)
+  pub wear-p : x .«wear_p» ≡ s .wear (r .p)
+  pub own-p : x .«own_p» ≡ s .own (r .p)
+  pub own-q : x .«own_q» ≡ s .own (r .q)
+
+-- W5's verdict of the headers, their owner and how many blocks there are
+abbrev pub pickedOf : (ℕ → ℕ) → ℕ → ℕ → ℕ → Thread → Verdict
+pickedOf header blocks owner t r =
+    need (heldBy t owner)
+    (need (ltb (lowestFree header blocks) blocks) (next (setP (lowestFree header blocks) r) nothing))
+
+-- the one of two values, or of two tests, that the register picks
+abbrev pub ofReg : Reg → ℕ → ℕ → ℕ
+ofReg P p q = p
+ofReg Q p q = q
+
+abbrev pub touchesOf : Reg → Bool → Bool → Bool
+touchesOf P p q = p
+touchesOf Q p q = q
 
 -- the numbers of a working thread's record, as constants bound them
-pub record Steady (t : ℕ) (r : Thread) (blocks distance : ℕ) : Type 0 where
+pub record Steady (t : ℕ) (r : Thread) : Type 0 where
   pub thread : t < mostThreads
   pub line : r .line < 4294967295
   pub n : r .n < mostNumbers
   pub p : r .p < mostBlocks
   pub q : r .q < mostBlocks
-  pub few : blocks ≤ mostBlocks

@@ -1,25 +1,42 @@
 // The step machine on the working store: the searches, what a line would do (`perform`, `judge`) and doing it (`settle`).
 // The definitions are those of the crate meaning, specs/Choosing.antt and specs/Step.antt.
 ghost use mathlib.Core.Path.{_≡_};
+ghost use mathlib.Core.Bool.{cond};
 ghost use Prim.Native.Nat.{ℕ, _+_, _<_, _≤_};
 ghost use lib.Dec.{ltb};
 ghost use Rattle.meaning.specs.declared.Thread.{Thread as ThreadOf};
-ghost use Rattle.meaning.specs.Limits.{mostBlocks, mostWord};
-ghost use Rattle.meaning.specs.Holding.{free};
+ghost use Rattle.meaning.specs.Store.{Store as StoreOf};
+ghost use Rattle.meaning.specs.Limits.{mostThreads, mostBlocks, mostWord};
+ghost use Rattle.meaning.specs.Holding.{free, named as namedOf};
 ghost use Rattle.meaning.specs.Choosing.{lowestFree, challenge, toBlock, leastWorn, fromBlock};
 ghost use Rattle.meaning.specs.Step.{perform as performOf, verdict};
 ghost use Rattle.store.specs.Live.{table, Live};
 ghost use Rattle.store.specs.Area.{decode};
-ghost use Rattle.machine.specs.Judging.{placeOf, chosenOf, given, Steady};
+ghost use Rattle.machine.specs.Judging.{placeOf, chosenOf, pickedOf, ofReg, touchesOf, Sees, Steady};
 
 use meaning::Act;
 use meaning::Effect;
 use meaning::Entry;
 use meaning::Found;
+use meaning::Reg;
 use meaning::Thread;
 use meaning::Verdict;
 use meaning::Word;
 use store::Store;
+
+// The words that a line may look at, the searches' tables left out: those of H, the headers' owner, number n, and blocks p and q.
+pub struct Near {
+    pub lock: u32,
+    pub owner: u32,
+    pub map: u32,
+    pub locks: u32,
+    pub header_p: u32,
+    pub header_q: u32,
+    pub content_p: u32,
+    pub wear_p: u32,
+    pub own_p: u32,
+    pub own_q: u32,
+}
 
 // ---- searches among the blocks
 
@@ -144,5 +161,90 @@ fn choose<'a>(
             let p = from_block(wear, distance, q, from);
             acts::next(acts::set_q(q, acts::set_p(p, r)), acts::nothing())
         }
+    }
+}
+
+// ---- what a line would do
+
+fn of_reg(b: Reg, p: u32, q: u32) -> u32
+    ensures { λ r. ⌜ r ≡ ofReg b p q ⌝ }
+{
+    match b {
+        Reg::P => p,
+        Reg::Q => q,
+    }
+}
+
+fn touches(b: Reg, p: bool, q: bool) -> bool
+    ensures { λ r. ⌜ r ≡ touchesOf b p q ⌝ }
+{
+    match b {
+        Reg::P => p,
+        Reg::Q => q,
+    }
+}
+
+fn either(first: bool, v: Verdict, w: Verdict) -> Verdict
+    ensures { λ r. ⌜ r ≡ cond first v w ⌝ }
+{
+    if first { v } else { w }
+}
+
+// The number or block that a word names.
+fn named(w: u32) -> u32
+    ensures { λ r. ⌜ r ≡ namedOf w ⌝ }
+{
+    if w == 0 { 0 } else { w - 1 }
+}
+
+// W5.
+fn pick(header: &[u32; Store::MAX_P], blocks: u32, owner: u32, t: u32, r: Thread) -> Verdict
+    requires { ⌜ (blocks ≤ mostBlocks) × (t < mostThreads) × (r .line < mostWord) ⌝ }
+    ensures { λ v. ⌜ v ≡ pickedOf (table (now (header .entry))) blocks owner t r ⌝ }
+{
+    let p = lowest_free(header, blocks);
+    let on = acts::set_p(p, acts::onward(r));
+    acts::need(owner == t + 1, acts::need(p < blocks, Verdict::Go(on, acts::nothing())))
+}
+
+// What the act would do, where the acts that search have been judged already.
+fn perform(act: Act, t: u32, r: Thread, x: Near, searched: Verdict) -> Verdict
+    requires { ⌜ Steady t r ⌝ }
+    ensures { λ v. ⌜ ((s : StoreOf) → Sees s r x → (act ≡ Act.PickFree → searched ≡ performOf Act.PickFree s t r) → (act ≡ Act.Choose → searched ≡ performOf Act.Choose s t r) → v ≡ performOf act s t r) ⌝ }
+{
+    let me = t + 1;
+    let on = acts::onward(r);
+    let none = acts::nothing();
+    let heads_p = (x.owner == me) & (x.own_p == me);
+    let touches_p = (x.own_p == me) & !(x.header_p == 0);
+    let touches_q = (x.own_q == me) & !(x.header_q == 0);
+    let found = Verdict::Go(acts::set_p(named(x.map), on), none);
+    match act {
+        Act::Nothing => Verdict::Fault,
+        Act::TakeH => acts::take(x.lock == 0, Verdict::Go(on, acts::on_lock(me))),
+        Act::ReleaseH => acts::need(x.lock == me, Verdict::Go(on, acts::on_lock(0))),
+        Act::FinishH(a) => acts::need(x.lock == me, Verdict::Done(acts::answer(a, r), acts::on_lock(0))),
+        Act::TakeN => acts::take(x.locks == 0, Verdict::Go(on, acts::on_locks(r.n, me))),
+        Act::ReleaseN => acts::need(x.locks == me, Verdict::Go(on, acts::on_locks(r.n, 0))),
+        Act::FinishN(a) => acts::need(x.locks == me, Verdict::Done(acts::answer(a, r), acts::on_locks(r.n, 0))),
+        Act::OwnHeaders => acts::need(x.owner == 0, Verdict::Go(on, acts::on_owner(me))),
+        Act::LetGoHeaders => acts::need(x.owner == me, Verdict::Go(on, acts::on_owner(0))),
+        Act::Own(b) => acts::need(of_reg(b, x.own_p, x.own_q) == 0, Verdict::Go(on, acts::on_own(acts::block(b, r), me))),
+        Act::LetGo(b) => acts::need(of_reg(b, x.own_p, x.own_q) == me, Verdict::Go(on, acts::on_own(acts::block(b, r), 0))),
+        Act::GoIfMapped(l) => either(x.map == 0, Verdict::Go(on, none), Verdict::Go(acts::goto(l, acts::set_p(named(x.map), r)), none)),
+        Act::GoIfUnmapped(l) => either(x.map == 0, Verdict::Go(acts::goto(l, r), none), found),
+        Act::EmptyIfUnmapped(l) => either(x.map == 0, Verdict::Go(acts::goto(l, acts::set_c(0, r)), none), found),
+        Act::GoIfFree(l) => either(r.h == 0, Verdict::Go(acts::goto(l, r), none), Verdict::Go(acts::set_n(named(r.h), on), none)),
+        Act::PickFree => searched,
+        Act::Choose => searched,
+        Act::ReadHeader => acts::need(x.owner == me, Verdict::Go(acts::set_h(x.header_p, on), none)),
+        Act::WriteHeaderN => acts::need(heads_p, Verdict::Go(on, acts::on_header(r.p, r.n + 1))),
+        Act::WriteHeaderH => acts::need((x.owner == me) & (x.own_q == me), Verdict::Go(on, acts::on_header(r.q, r.h))),
+        Act::FreeHeader => acts::need(heads_p, Verdict::Go(on, acts::on_freed(r.p, acts::worn(x.wear_p)))),
+        Act::EmptyContent => acts::need(touches_p, Verdict::Go(on, acts::on_content(r.p, 0))),
+        Act::ReadContent => acts::need(touches_p, Verdict::Go(acts::set_c(x.content_p, on), none)),
+        Act::WriteContent(b) => acts::need(touches(b, touches_p, touches_q), Verdict::Go(on, acts::on_content(acts::block(b, r), r.c))),
+        Act::MapTo(b) => Verdict::Go(on, acts::on_map(r.n, acts::block(b, r) + 1)),
+        Act::Unmap => Verdict::Go(on, acts::on_map(r.n, 0)),
     }
 }

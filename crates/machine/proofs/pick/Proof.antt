@@ -1,0 +1,20 @@
+-- `machine::pick` meets its contract. Assumes nothing.
+use borrow.Author.Needs.{needs}
+use Rattle.machine.proofs.pick.Statement.{statement}
+use Rattle.machine.proofs.pick.Tie as tie
+
+returns : tie.Need-returns
+returns c =
+    simp
+    (c .need2 .ensures,
+     c .before .need .ensures,
+     c .before .before .nothing .ensures,
+     c .before .before .before .set-p .ensures,
+     c .before .before .before .before .onward .ensures,
+     c .before .before .before .before .before .lowest-free .ensures)
+
+pub pick-spec : {M : Type 1} → statement M
+pick-spec =
+    tie.close
+    (tie.spec (λ c κs. search needs) (λ c κs. search needs) (λ c κs. search needs) (λ c. search needs)
+    (λ c κs. search needs) (λ c κs. search needs) (λ c κs. search needs) returns)

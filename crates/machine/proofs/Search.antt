@@ -10,7 +10,10 @@ use borrow.Author.Tests.{eq-eqb, ne-eqb, lt-ltb, le-ltb}
 use Rattle.meaning.specs.declared.Found.{Found}
 use Rattle.meaning.specs.declared.Found.the-variants.{Nobody, At}
 use Rattle.meaning.specs.Choosing.{lowestNext, lowestFree, challenge, best, fromBlock}
-use Rattle.machine.specs.Judging.{placeOf}
+use Rattle.meaning.specs.declared.Thread.{Thread}
+use Rattle.meaning.specs.Store.{Store}
+use Rattle.meaning.specs.Step.{choosing}
+use Rattle.machine.specs.Judging.{placeOf, chosenBy}
 
 -- ---- the lowest free block
 
@@ -91,3 +94,8 @@ fromBlock-at wear distance to place f a b near e ep ea eb q =
 -- what is found of the first n blocks is below their number's bound
 pub found-below : (eligible : ℕ → Bool) (beats : ℕ → ℕ → Bool) (n : ℕ) {f : Found} → f ≡ best eligible beats n → n ≤ 512 → placeOf f < 512
 found-below eligible beats n e h = rw e (best-below eligible beats n 512 h (omega arith))
+
+-- L3's verdict looks at wear and distance alone
+pub chosen-choosing : (s : Store) (r : Thread) (to from : Found) → chosenBy (s .wear) (s .distance) r to from ≡ choosing s r to from
+chosen-choosing s r Nobody from = refl
+chosen-choosing s r (At to) from = refl

@@ -45,6 +45,28 @@ pub record Sees (s : Store) (r : Thread) (x : Near) : Type 0 where
   pub own-p : x .«own_p» ≡ s .own (r .p)
   pub own-q : x .«own_q» ≡ s .own (r .q)
 
+-- and what the searches look at
+pub record Searches (s : Store) (headers wears : ℕ → ℕ) (count away : ℕ) : Type 0 where
+  pub header : headers ≡ s .header
+  pub wear : wears ≡ s .wear
+  pub blocks : count ≡ s .blocks
+  pub distance : away ≡ s .distance
+
+abbrev pub nearOf : Thread → ℕ → ℕ → (ℕ → ℕ) → (ℕ → ℕ) → (ℕ → ℕ) → (ℕ → ℕ) → (ℕ → ℕ) → (ℕ → ℕ) → Near
+nearOf r lock owner map locks header content wear own =
+    record {
+      lock = lock;
+      owner = owner;
+      map = map (r .n);
+      locks = locks (r .n);
+      «header_p» = header (r .p);
+      «header_q» = header (r .q);
+      «content_p» = content (r .p);
+      «wear_p» = wear (r .p);
+      «own_p» = own (r .p);
+      «own_q» = own (r .q)
+    }
+
 -- W5's verdict of the headers, their owner and how many blocks there are
 abbrev pub pickedOf : (ℕ → ℕ) → ℕ → ℕ → ℕ → Thread → Verdict
 pickedOf header blocks owner t r =
@@ -67,3 +89,9 @@ pub record Steady (t : ℕ) (r : Thread) : Type 0 where
   pub n : r .n < mostNumbers
   pub p : r .p < mostBlocks
   pub q : r .q < mostBlocks
+
+-- the record stands at a line of its operation
+pub record AtLine (r : Thread) : Type 0 where
+  pub op : r .op ≤ LEVEL
+  pub low : 0 < r .line
+  pub high : r .line ≤ lastLine (r .op)

@@ -6,13 +6,14 @@ ghost use Prim.Native.Nat.{ℕ, _+_, _<_, _≤_};
 ghost use lib.Dec.{ltb};
 ghost use Rattle.meaning.specs.declared.Thread.{Thread as ThreadOf};
 ghost use Rattle.meaning.specs.Store.{Store as StoreOf};
-ghost use Rattle.meaning.specs.Limits.{mostThreads, mostBlocks, mostWord};
+ghost use Rattle.meaning.specs.Limits.{mostThreads, mostNumbers, mostBlocks, mostWord};
 ghost use Rattle.meaning.specs.Holding.{free, named as namedOf};
+ghost use Rattle.meaning.specs.Programs.{actAt};
 ghost use Rattle.meaning.specs.Choosing.{lowestFree, challenge, toBlock, leastWorn, fromBlock};
-ghost use Rattle.meaning.specs.Step.{perform as performOf, verdict};
+ghost use Rattle.meaning.specs.Step.{perform as performOf};
 ghost use Rattle.store.specs.Live.{table, Live};
 ghost use Rattle.store.specs.Area.{decode};
-ghost use Rattle.machine.specs.Judging.{placeOf, chosenOf, pickedOf, ofReg, touchesOf, Sees, Steady};
+ghost use Rattle.machine.specs.Judging.{placeOf, chosenOf, pickedOf, ofReg, touchesOf, Sees, Searches, nearOf, Steady, AtLine};
 
 use meaning::Act;
 use meaning::Effect;
@@ -207,10 +208,20 @@ fn pick(header: &[u32; Store::MAX_P], blocks: u32, owner: u32, t: u32, r: Thread
     acts::need(owner == t + 1, acts::need(p < blocks, Verdict::Go(on, acts::nothing())))
 }
 
-// What the act would do, where the acts that search have been judged already.
-fn perform(act: Act, t: u32, r: Thread, x: Near, searched: Verdict) -> Verdict
-    requires { ⌜ Steady t r ⌝ }
-    ensures { λ v. ⌜ ((s : StoreOf) → Sees s r x → (act ≡ Act.PickFree → searched ≡ performOf Act.PickFree s t r) → (act ≡ Act.Choose → searched ≡ performOf Act.Choose s t r) → v ≡ performOf act s t r) ⌝ }
+// What the act would do: an arm an act, as in specs/Step.antt. It looks at the words near its record and, where it searches, at all
+// headers and wear.
+fn perform<'a>(
+    act: Act,
+    t: u32,
+    r: Thread,
+    x: Near,
+    header: &'a [u32; Store::MAX_P],
+    wear: &'a [u32; Store::MAX_P],
+    blocks: u32,
+    distance: u32,
+) -> Verdict
+    requires { ⌜ Steady t r × (blocks ≤ mostBlocks) ⌝ }
+    ensures { λ v. ⌜ ((s : StoreOf) → Sees s r x → Searches s (table (now (header .entry))) (table (now (wear .entry))) blocks distance → v ≡ performOf act s t r) ⌝ }
 {
     let me = t + 1;
     let on = acts::onward(r);
@@ -235,8 +246,8 @@ fn perform(act: Act, t: u32, r: Thread, x: Near, searched: Verdict) -> Verdict
         Act::GoIfUnmapped(l) => either(x.map == 0, Verdict::Go(acts::goto(l, r), none), found),
         Act::EmptyIfUnmapped(l) => either(x.map == 0, Verdict::Go(acts::goto(l, acts::set_c(0, r)), none), found),
         Act::GoIfFree(l) => either(r.h == 0, Verdict::Go(acts::goto(l, r), none), Verdict::Go(acts::set_n(named(r.h), on), none)),
-        Act::PickFree => searched,
-        Act::Choose => searched,
+        Act::PickFree => pick(header, blocks, x.owner, t, r),
+        Act::Choose => acts::need(x.owner == me, choose(header, wear, blocks, distance, r)),
         Act::ReadHeader => acts::need(x.owner == me, Verdict::Go(acts::set_h(x.header_p, on), none)),
         Act::WriteHeaderN => acts::need(heads_p, Verdict::Go(on, acts::on_header(r.p, r.n + 1))),
         Act::WriteHeaderH => acts::need((x.owner == me) & (x.own_q == me), Verdict::Go(on, acts::on_header(r.q, r.h))),
@@ -247,4 +258,54 @@ fn perform(act: Act, t: u32, r: Thread, x: Near, searched: Verdict) -> Verdict
         Act::MapTo(b) => Verdict::Go(on, acts::on_map(r.n, acts::block(b, r) + 1)),
         Act::Unmap => Verdict::Go(on, acts::on_map(r.n, 0)),
     }
+}
+
+// The words that a line of record r may look at.
+fn words_near<'a>(
+    r: Thread,
+    lock: u32,
+    owner: u32,
+    map: &'a [u32; Store::MAX_N],
+    locks: &'a [u32; Store::MAX_N],
+    header: &'a [u32; Store::MAX_P],
+    content: &'a [u32; Store::MAX_P],
+    wear: &'a [u32; Store::MAX_P],
+    own: &'a [u32; Store::MAX_P],
+) -> Near
+    requires { ⌜ (r .n < mostNumbers) × (r .p < mostBlocks) × (r .q < mostBlocks) ⌝ }
+    ensures { λ x. ⌜ x ≡ nearOf r lock owner (table (now (map .entry))) (table (now (locks .entry))) (table (now (header .entry))) (table (now (content .entry))) (table (now (wear .entry))) (table (now (own .entry))) ⌝ }
+{
+    let n = r.n as usize;
+    let p = r.p as usize;
+    let q = r.q as usize;
+    Near {
+        lock,
+        owner,
+        map: map[n],
+        locks: locks[n],
+        header_p: header[p],
+        header_q: header[q],
+        content_p: content[p],
+        wear_p: wear[p],
+        own_p: own[p],
+        own_q: own[q],
+    }
+}
+
+// The sizes T, N and P of an area.
+pub struct Sizes {
+    pub t: usize,
+    pub n: usize,
+    pub p: usize,
+}
+
+// What thread t's next line would do to the store that the area holds.
+pub fn judge(area: &[u8], z: Sizes, t: u32, r: Thread) -> Verdict
+    requires { ⌜ Live (now area) (z .t) (z .n) (z .p) × Steady t r × AtLine r ⌝ }
+    ensures { λ v. ⌜ v ≡ performOf (actAt (r .op) (r .line)) (decode (now (area .entry))) t r ⌝ }
+{
+    let s = store::load(area, z.t, z.n, z.p);
+    let act = acts::act_at(r.op, r.line);
+    let words = words_near(r, s.lock, s.owner, &s.map, &s.locks, &s.header, &s.content, &s.wear, &s.own);
+    perform(act, t, r, words, &s.header, &s.wear, s.p, s.d)
 }

@@ -9,15 +9,17 @@ use lib.Dec.{eqb, ltb}
 use borrow.Author.Tests.{lt-ltb, ltb-true, eq-eqb, ne-eqb, eqb-true, eqb-false}
 use Rattle.meaning.specs.declared.Thread.{Thread}
 use Rattle.meaning.specs.declared.Effect.{Effect}
-use Rattle.meaning.specs.declared.Word.the-variants.{Stay}
+use Rattle.meaning.specs.declared.Word.{Word}
+use Rattle.meaning.specs.declared.Word.the-variants.{Stay, Become}
+use Rattle.meaning.specs.declared.Entry.{Entry}
 use Rattle.meaning.specs.declared.Entry.the-variants.{Keep, Put}
 use Rattle.meaning.specs.Table.{upd, below}
 use Rattle.meaning.specs.Store.{Store, idle}
 use Rattle.meaning.specs.Step.{become, put, apply, nothing, onLock, onOwner, onMap, onLocks, onHeader, onContent, onOwn}
 use Rattle.meaning.specs.Limits.{mostWord}
 use Rattle.store.specs.Layout.{tAt, nAt, pAt, dAt, lockAt, ownerAt, threadsAt, threadWords, mapAt, locksAt, blocksAt, blockWords}
-use Rattle.store.specs.Area.{word, putWord, putThread, threadFrom, column, storeOf, decode}
-use Rattle.store.specs.Live.{Live, Within}
+use Rattle.store.specs.Area.{word, putWord, putThread, putBecome, putEntry, threadFrom, column, storeOf, decode}
+use Rattle.store.specs.Live.{Live, Within, EntryWithin, BecomeFits, EntryFits, EntryBelow, Small}
 use Rattle.store.proofs.Words.{word-put, length-putWord}
 use Rattle.store.proofs.Decode.{decode-live}
 
@@ -191,10 +193,6 @@ made s e =
 pub apply-made : (s : Store) (t : ℕ) (r : Thread) (e : Effect) → apply s t r e ≡ made (apply s t r nothing) e
 apply-made s t r e = refl
 
--- the wear alone
-abbrev pub onWear : ℕ → ℕ → Effect
-onWear m w = record { lock = Stay; owner = Stay; map = Keep; locks = Keep; header = Keep; content = Keep; wear = Put m w; own = Keep }
-
 module _ (at : ℕ → ℕ) (t n p v : ℕ) where
   abbrev old : Store
   old = storeOf at t n p
@@ -233,7 +231,7 @@ module _ (at : ℕ → ℕ) (t n p v : ℕ) where
         others 6 (blocksAt t n + 1 + blockWords * k) (omega arith)
         ∙ ap (λ f. mixed 6 (uniform (λ _. idle) f) old) (column-put at (blocksAt t n + 1) blockWords p k v h (λ j o e. omega arith))
 
-    store-wear : k < p → after (blocksAt t n + 2 + blockWords * k) ≡ made old (onWear k v)
+    store-wear : k < p → after (blocksAt t n + 2 + blockWords * k) ≡ made old (record { lock = Stay; owner = Stay; map = Keep; locks = Keep; header = Keep; content = Keep; wear = Put k v; own = Keep })
     store-wear h =
         others 7 (blocksAt t n + 2 + blockWords * k) (omega arith)
         ∙ ap (λ f. mixed 7 (uniform (λ _. idle) f) old) (column-put at (blocksAt t n + 2) blockWords p k v h (λ j o e. omega arith))
@@ -327,54 +325,115 @@ module _ {a : List ℕ} {t n p : ℕ} (live : Live a t n p) (w x : ℕ) (inside 
   decode-put e q =
       decode-live live-put ∙ ap (λ (f : ℕ → ℕ). storeOf f t n p) word-put-at ∙ q ∙ ap (λ s. made s e) (sym (decode-live live))
 
-module _ {a : List ℕ} {t n p : ℕ} (live : Live a t n p) (k x : ℕ) (fits : x ≤ mostWord) where
-  pub decode-lock : decode (putWord a lockAt x) ≡ made (decode a) (onLock x)
-  decode-lock = decode-put live lockAt x (omega (arith, live .fits)) (omega arith) fits (onLock x) (store-lock (word a) t n p x)
+-- the effects on one table alone
+abbrev pub lockOnly : Word → Effect
+lockOnly w = record { lock = w; owner = Stay; map = Keep; locks = Keep; header = Keep; content = Keep; wear = Keep; own = Keep }
 
-  pub decode-owner : decode (putWord a ownerAt x) ≡ made (decode a) (onOwner x)
-  decode-owner = decode-put live ownerAt x (omega (arith, live .fits)) (omega arith) fits (onOwner x) (store-owner (word a) t n p x)
+abbrev pub ownerOnly : Word → Effect
+ownerOnly w = record { lock = Stay; owner = w; map = Keep; locks = Keep; header = Keep; content = Keep; wear = Keep; own = Keep }
 
-  pub decode-map : k < n → decode (putWord a (mapAt t + k) x) ≡ made (decode a) (onMap k x)
-  decode-map h =
-      let e : k ≡ 1 * k = omega arith in
-      ap (λ i. decode (putWord a (mapAt t + i) x)) e
-      ∙ decode-put live (mapAt t + 1 * k) x (omega (arith, live .fits)) (omega arith) fits (onMap k x) (store-map (word a) t n p x k h)
+abbrev pub mapOnly : Entry → Effect
+mapOnly w = record { lock = Stay; owner = Stay; map = w; locks = Keep; header = Keep; content = Keep; wear = Keep; own = Keep }
 
-  pub decode-locks : k < n → decode (putWord a (locksAt t n + k) x) ≡ made (decode a) (onLocks k x)
-  decode-locks h =
-      let e : k ≡ 1 * k = omega arith in
-      ap (λ i. decode (putWord a (locksAt t n + i) x)) e
-      ∙ decode-put live (locksAt t n + 1 * k) x (omega (arith, live .fits)) (omega arith) fits (onLocks k x) (store-locks (word a) t n p x k h)
+abbrev pub locksOnly : Entry → Effect
+locksOnly w = record { lock = Stay; owner = Stay; map = Keep; locks = w; header = Keep; content = Keep; wear = Keep; own = Keep }
 
-  pub decode-header : k < p → decode (putWord a (blocksAt t n + blockWords * k) x) ≡ made (decode a) (onHeader k x)
-  decode-header h =
-      decode-put live (blocksAt t n + blockWords * k) x (omega (arith, live .fits)) (omega arith) fits (onHeader k x)
+abbrev pub headerOnly : Entry → Effect
+headerOnly w = record { lock = Stay; owner = Stay; map = Keep; locks = Keep; header = w; content = Keep; wear = Keep; own = Keep }
+
+abbrev pub contentOnly : Entry → Effect
+contentOnly w = record { lock = Stay; owner = Stay; map = Keep; locks = Keep; header = Keep; content = w; wear = Keep; own = Keep }
+
+abbrev pub wearOnly : Entry → Effect
+wearOnly w = record { lock = Stay; owner = Stay; map = Keep; locks = Keep; header = Keep; content = Keep; wear = w; own = Keep }
+
+abbrev pub ownOnly : Entry → Effect
+ownOnly w = record { lock = Stay; owner = Stay; map = Keep; locks = Keep; header = Keep; content = Keep; wear = Keep; own = w }
+
+module _ {a : List ℕ} {t n p : ℕ} (live : Live a t n p) where
+  -- the area stays live, whatever becomes of a word past the sizes
+  pub live-become : (k : ℕ) (w : Word) → Within a k → pAt < k → BecomeFits w → Live (putBecome a k w) t n p
+  live-become k Stay i o f = live
+  live-become k (Become x) i o f = live-put live k x i o f
+
+  pub live-entry :
+      (from stride count : ℕ) (e : Entry) → EntryBelow count e →
+      ((k : ℕ) → k < count → Within a (from + stride * k) × (pAt < from + stride * k)) → EntryFits e →
+      Live (putEntry a from stride e) t n p
+  live-entry from stride count Keep h i f = live
+  live-entry from stride count (Put k x) h i f = live-put live (from + stride * k) x (i k h .0) (i k h .1) f
+
+  pub within-entry :
+      (from stride count : ℕ) (e : Entry) → EntryBelow count e →
+      ((k : ℕ) → k < count → Within a (from + stride * k) × (pAt < from + stride * k)) → EntryWithin a from stride e
+  within-entry from stride count Keep h i = tt
+  within-entry from stride count (Put k x) h i = i k h .0
+
+  -- where each table stands
+  pub map-inside : (k : ℕ) → k < n → Within a (mapAt t + 1 * k) × (pAt < mapAt t + 1 * k)
+  map-inside k h = omega (arith, live .fits)
+
+  pub locks-inside : (k : ℕ) → k < n → Within a (locksAt t n + 1 * k) × (pAt < locksAt t n + 1 * k)
+  locks-inside k h = omega (arith, live .fits)
+
+  pub blocks-inside :
+      (d : ℕ) → d < blockWords → (k : ℕ) → k < p →
+      Within a (blocksAt t n + d + blockWords * k) × (pAt < blocksAt t n + d + blockWords * k)
+  blocks-inside d l k h = omega (arith, live .fits)
+
+  pub header-inside : (k : ℕ) → k < p → Within a (blocksAt t n + blockWords * k) × (pAt < blocksAt t n + blockWords * k)
+  header-inside k h = omega (arith, live .fits)
+
+  -- what becomes of each table of the decoded store
+  pub decode-lock : (w : Word) → BecomeFits w → decode (putBecome a lockAt w) ≡ made (decode a) (lockOnly w)
+  decode-lock Stay f = refl
+  decode-lock (Become x) f =
+      decode-put live lockAt x (omega (arith, live .fits)) (omega arith) f (onLock x) (store-lock (word a) t n p x)
+
+  pub decode-owner : (w : Word) → BecomeFits w → decode (putBecome a ownerAt w) ≡ made (decode a) (ownerOnly w)
+  decode-owner Stay f = refl
+  decode-owner (Become x) f =
+      decode-put live ownerAt x (omega (arith, live .fits)) (omega arith) f (onOwner x) (store-owner (word a) t n p x)
+
+  pub decode-map : (e : Entry) → EntryBelow n e → EntryFits e → decode (putEntry a (mapAt t) 1 e) ≡ made (decode a) (mapOnly e)
+  decode-map Keep h f = refl
+  decode-map (Put k x) h f =
+      decode-put live (mapAt t + 1 * k) x (map-inside k h .0) (map-inside k h .1) f (onMap k x) (store-map (word a) t n p x k h)
+
+  pub decode-locks :
+      (e : Entry) → EntryBelow n e → EntryFits e → decode (putEntry a (locksAt t n) 1 e) ≡ made (decode a) (locksOnly e)
+  decode-locks Keep h f = refl
+  decode-locks (Put k x) h f =
+      decode-put live (locksAt t n + 1 * k) x (locks-inside k h .0) (locks-inside k h .1) f (onLocks k x)
+      (store-locks (word a) t n p x k h)
+
+  pub decode-header :
+      (e : Entry) → EntryBelow p e → EntryFits e → decode (putEntry a (blocksAt t n) blockWords e) ≡ made (decode a) (headerOnly e)
+  decode-header Keep h f = refl
+  decode-header (Put k x) h f =
+      decode-put live (blocksAt t n + blockWords * k) x (header-inside k h .0) (header-inside k h .1) f (onHeader k x)
       (store-header (word a) t n p x k h)
 
-  pub decode-content : k < p → decode (putWord a (blocksAt t n + 1 + blockWords * k) x) ≡ made (decode a) (onContent k x)
-  decode-content h =
-      decode-put live (blocksAt t n + 1 + blockWords * k) x (omega (arith, live .fits)) (omega arith) fits (onContent k x)
-      (store-content (word a) t n p x k h)
+  pub decode-content :
+      (e : Entry) → EntryBelow p e → EntryFits e → decode (putEntry a (blocksAt t n + 1) blockWords e) ≡ made (decode a) (contentOnly e)
+  decode-content Keep h f = refl
+  decode-content (Put k x) h f =
+      decode-put live (blocksAt t n + 1 + blockWords * k) x (blocks-inside 1 (omega arith) k h .0) (blocks-inside 1 (omega arith) k h .1) f
+      (onContent k x) (store-content (word a) t n p x k h)
 
-  pub decode-wear : k < p → decode (putWord a (blocksAt t n + 2 + blockWords * k) x) ≡ made (decode a) (onWear k x)
-  decode-wear h =
-      decode-put live (blocksAt t n + 2 + blockWords * k) x (omega (arith, live .fits)) (omega arith) fits (onWear k x)
-      (store-wear (word a) t n p x k h)
+  pub decode-wear :
+      (e : Entry) → EntryBelow p e → EntryFits e → decode (putEntry a (blocksAt t n + 2) blockWords e) ≡ made (decode a) (wearOnly e)
+  decode-wear Keep h f = refl
+  decode-wear (Put k x) h f =
+      decode-put live (blocksAt t n + 2 + blockWords * k) x (blocks-inside 2 (omega arith) k h .0) (blocks-inside 2 (omega arith) k h .1) f
+      (wearOnly (Put k x)) (store-wear (word a) t n p x k h)
 
-  pub decode-own : k < p → decode (putWord a (blocksAt t n + 3 + blockWords * k) x) ≡ made (decode a) (onOwn k x)
-  decode-own h =
-      decode-put live (blocksAt t n + 3 + blockWords * k) x (omega (arith, live .fits)) (omega arith) fits (onOwn k x)
-      (store-own (word a) t n p x k h)
-
--- a thread's record whose registers are words
-pub record Small (r : Thread) : Type 0 where
-  pub op : r .op ≤ mostWord
-  pub line : r .line ≤ mostWord
-  pub n : r .n ≤ mostWord
-  pub c : r .c ≤ mostWord
-  pub p : r .p ≤ mostWord
-  pub q : r .q ≤ mostWord
-  pub h : r .h ≤ mostWord
+  pub decode-own :
+      (e : Entry) → EntryBelow p e → EntryFits e → decode (putEntry a (blocksAt t n + 3) blockWords e) ≡ made (decode a) (ownOnly e)
+  decode-own Keep h f = refl
+  decode-own (Put k x) h f =
+      decode-put live (blocksAt t n + 3 + blockWords * k) x (blocks-inside 3 (omega arith) k h .0) (blocks-inside 3 (omega arith) k h .1) f
+      (onOwn k x) (store-own (word a) t n p x k h)
 
 module _ {a : List ℕ} {t n p : ℕ} (live : Live a t n p) (k : ℕ) (r : Thread) (small : Small r) (low : k < t) where
   abbrev cell : ℕ

@@ -9,7 +9,7 @@ use native.Mathlib.Decide.{decLt}
 use native.Mathlib.Omega.{arith}
 use lib.Dec.{eqb}
 use lib.ListN.{getD, set, length, drop, length-set, drop-of-length-le}
-use lib.Seq.{getD-set-same, getD-set-other, drop-cons}
+use lib.Seq.{getD-set-same, getD-set-other, set-out, drop-cons}
 use borrow.Author.Tests.{eqb-true, eqb-false}
 use Rattle.meaning.specs.Table.{upd}
 use Rattle.store.specs.Area.{Bytes, word, bytes, putWord}
@@ -192,3 +192,32 @@ bytes-span a h (suc count) k l =
 
     after : 4 * suc k ≡ 4 * k + 4
     after = omega arith
+
+-- ---- bytes stay bytes
+
+getD-set-byte : (a : List ℕ) (i v : ℕ) → Bytes a → v < 256 → Bytes (set a i v)
+getD-set-byte a i v h l j = by-place (eqb j i) refl
+  where
+    by-place : (b : Bool) → eqb j i ≡ b → getD (set a i v) j 0 < 256
+    by-place true e = rw (eqb-true j i e) (by-length (decLt i (length a)))
+      where
+        by-length : Dec (i < length a) → getD (set a i v) i 0 < 256
+        by-length (yes q) = rw (getD-set-same a i v 0 q) l
+        by-length (no q) = rw (set-out a i v (omega arith)) (h i)
+    by-place false e = rw (getD-set-other a i j v 0 (eqb-false j i e)) (h j)
+
+pub bytes-put : (a : List ℕ) (k v : ℕ) → Bytes a → Bytes (putWord a k v)
+bytes-put a k v h =
+    getD-set-byte a₃ (4 * k + 3) (v / 16777216 % 256)
+    (getD-set-byte a₂ (4 * k + 2) (v / 65536 % 256)
+    (getD-set-byte a₁ (4 * k + 1) (v / 256 % 256) (getD-set-byte a (4 * k) (v % 256) h (omega arith)) (omega arith)) (omega arith))
+    (omega arith)
+  where
+    a₁ : List ℕ
+    a₁ = set a (4 * k) (v % 256)
+
+    a₂ : List ℕ
+    a₂ = set a₁ (4 * k + 1) (v / 256 % 256)
+
+    a₃ : List ℕ
+    a₃ = set a₂ (4 * k + 2) (v / 65536 % 256)

@@ -6,6 +6,10 @@ use Prim.Native.Nat.{ℕ, zero, suc, _+_, _*_, _/_, _%_, _<_}
 use lib.ListN.{getD, set, length}
 use lib.Dec.{eqb, ltb, leb}
 use Rattle.meaning.specs.declared.Thread.{Thread}
+use Rattle.meaning.specs.declared.Word.{Word}
+use Rattle.meaning.specs.declared.Word.the-variants.{Stay, Become}
+use Rattle.meaning.specs.declared.Entry.{Entry}
+use Rattle.meaning.specs.declared.Entry.the-variants.{Keep, Put}
 use Rattle.meaning.specs.Table.{below, every}
 use Rattle.meaning.specs.Limits.{inLimits, within}
 use Rattle.meaning.specs.Store.{Store, idle}
@@ -41,6 +45,16 @@ putThread a k r =
     (putWord (putWord (putWord (putWord a k (r .op)) (k + 1) (r .line)) (k + 2) (r .n)) (k + 3) (r .c)) (k + 4) (r .p))
     (k + 5) (r .q))
     (k + 6) (r .h)
+
+-- the area with what becomes of its word k
+abbrev pub putBecome : List ℕ → ℕ → Word → List ℕ
+putBecome a k Stay = a
+putBecome a k (Become v) = putWord a k v
+
+-- the area with what becomes of the column of words at from, from + stride, ..
+abbrev pub putEntry : List ℕ → ℕ → ℕ → Entry → List ℕ
+putEntry a from stride Keep = a
+putEntry a from stride (Put k v) = putWord a (from + stride * k) v
 
 -- ---- the area of a store
 

@@ -4,7 +4,12 @@ use mathlib.Core.Path.{_≡_}
 use mathlib.Core.List.{List}
 use Prim.Native.Nat.{ℕ, _+_, _*_, _<_, _≤_}
 use lib.ListN.{length, getD, replicate}
-use Rattle.meaning.specs.Limits.{mostThreads, mostNumbers, mostBlocks}
+use Rattle.meaning.specs.declared.Thread.{Thread}
+use Rattle.meaning.specs.declared.Word.{Word}
+use Rattle.meaning.specs.declared.Word.the-variants.{Stay, Become}
+use Rattle.meaning.specs.declared.Entry.{Entry}
+use Rattle.meaning.specs.declared.Entry.the-variants.{Keep, Put}
+use Rattle.meaning.specs.Limits.{mostThreads, mostNumbers, mostBlocks, mostWord}
 use Rattle.meaning.specs.Store.{Store}
 use Rattle.store.specs.declared.Store.{Store as Working}
 use Rattle.store.specs.Layout.{tAt, nAt, pAt, threadWords, size}
@@ -21,9 +26,38 @@ pub record Live (a : List ℕ) (t n p : ℕ) : Type 0 where
 abbrev pub Within : List ℕ → ℕ → Type 0
 Within a k = 4 * k + 4 ≤ length a
 
+-- the entry of a column that is put to, if any, is within the area
+abbrev pub EntryWithin : List ℕ → ℕ → ℕ → Entry → Type 0
+EntryWithin a from stride Keep = Unit {0}
+EntryWithin a from stride (Put k v) = Within a (from + stride * k)
+
 -- the words of a column are within the area
 abbrev pub Reaches : List ℕ → ℕ → ℕ → ℕ → Type 0
 Reaches a from stride count = (k : ℕ) → k < count → Within a (from + stride * k)
+
+-- the words that a setter is given are words: what it can tell, since its arguments are
+abbrev pub BecomeFits : Word → Type 0
+BecomeFits Stay = Unit {0}
+BecomeFits (Become v) = v ≤ mostWord
+
+abbrev pub EntryFits : Entry → Type 0
+EntryFits Keep = Unit {0}
+EntryFits (Put k v) = v ≤ mostWord
+
+-- the entry that is put to, if any, is one of so many
+abbrev pub EntryBelow : ℕ → Entry → Type 0
+EntryBelow n Keep = Unit {0}
+EntryBelow n (Put k v) = k < n
+
+-- a thread's record whose registers are words
+pub record Small (r : Thread) : Type 0 where
+  pub op : r .op ≤ mostWord
+  pub line : r .line ≤ mostWord
+  pub n : r .n ≤ mostWord
+  pub c : r .c ≤ mostWord
+  pub p : r .p ≤ mostWord
+  pub q : r .q ≤ mostWord
+  pub h : r .h ≤ mostWord
 
 -- what a reading loop asks: the column is within the area and fits the array, which is full of zeros
 pub record Fills (a : List ℕ) (from stride count : ℕ) (into : List ℕ) (room : ℕ) : Type 0 where

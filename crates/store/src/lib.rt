@@ -9,9 +9,11 @@ ghost use Rattle.meaning.specs.Table.{every};
 ghost use Rattle.meaning.specs.Limits.{least, mostThreads, mostNumbers, mostBlocks, mostDistance, inLimits};
 ghost use Rattle.meaning.specs.Programs.{lastLine};
 ghost use Rattle.store.specs.Layout.{lockAt, ownerAt, threadsAt, threadWords, mapAt, locksAt, blocksAt, blockWords, size};
-ghost use Rattle.store.specs.Area.{word, putWord, putThread, threadFrom, column, decode, soundThread, inBounds, wellFormed};
-ghost use Rattle.store.specs.Live.{Live, Within, Reaches, Fills, table, view, zeroFilled};
+ghost use Rattle.store.specs.Area.{word, putWord, putThread, putBecome, putEntry, threadFrom, column, decode, soundThread, inBounds, wellFormed};
+ghost use Rattle.store.specs.Live.{Live, Within, EntryWithin, BecomeFits, EntryFits, Small, Reaches, Fills, table, view, zeroFilled};
+use meaning::Entry;
 use meaning::Thread;
+use meaning::Word;
 
 // ---- the working store and the limits
 
@@ -112,45 +114,45 @@ pub fn put_word(area: &mut [u8], k: usize, v: u32)
 
 // ---- where the tables stand, in words
 
-const T_AT: usize = 0;
+pub const T_AT: usize = 0;
 
-const N_AT: usize = 1;
+pub const N_AT: usize = 1;
 
-const P_AT: usize = 2;
+pub const P_AT: usize = 2;
 
-const D_AT: usize = 3;
+pub const D_AT: usize = 3;
 
-const LOCK_AT: usize = 4;
+pub const LOCK_AT: usize = 4;
 
-const OWNER_AT: usize = 5;
+pub const OWNER_AT: usize = 5;
 
-const THREADS_AT: usize = 6;
+pub const THREADS_AT: usize = 6;
 
-const THREAD_WORDS: usize = 7;
+pub const THREAD_WORDS: usize = 7;
 
-const BLOCK_WORDS: usize = 4;
+pub const BLOCK_WORDS: usize = 4;
 
-const CONTENT: usize = 1;
+pub const CONTENT: usize = 1;
 
-const WEAR: usize = 2;
+pub const WEAR: usize = 2;
 
-const OWN: usize = 3;
+pub const OWN: usize = 3;
 
-fn map_at(t: usize) -> usize
+pub fn map_at(t: usize) -> usize
     requires { ⌜ t ≤ mostThreads ⌝ }
     ensures { λ r. ⌜ r ≡ mapAt t ⌝ }
 {
     THREADS_AT + THREAD_WORDS * t
 }
 
-fn locks_at(t: usize, n: usize) -> usize
+pub fn locks_at(t: usize, n: usize) -> usize
     requires { ⌜ (t ≤ mostThreads) × (n ≤ mostNumbers) ⌝ }
     ensures { λ r. ⌜ r ≡ locksAt t n ⌝ }
 {
     map_at(t) + n
 }
 
-fn blocks_at(t: usize, n: usize) -> usize
+pub fn blocks_at(t: usize, n: usize) -> usize
     requires { ⌜ (t ≤ mostThreads) × (n ≤ mostNumbers) ⌝ }
     ensures { λ r. ⌜ r ≡ blocksAt t n ⌝ }
 {
@@ -279,23 +281,36 @@ pub fn well_formed(area: &[u8]) -> bool
 
 // ---- setters: each changes exactly the words that its contract names
 
-pub fn set_lock(area: &mut [u8], v: u32)
-    requires { ⌜ Within (now area) lockAt ⌝ }
-    ensures { λ _. ⌜ now (area .exit) ≡ putWord (now (area .entry)) lockAt v ⌝ }
+// What becomes of word k: the header lock, the headers' owner.
+pub fn set_word(area: &mut [u8], k: usize, w: Word)
+    requires { ⌜ Within (now area) k ⌝ }
+    ensures { λ _. ⌜ (now (area .exit) ≡ putBecome (now (area .entry)) k w) × BecomeFits w ⌝ }
 {
-    put_word(area, LOCK_AT, v);
+    match w {
+        Word::Stay => {}
+        Word::Become(v) => {
+            put_word(area, k, v);
+        }
+    }
 }
 
-pub fn set_owner(area: &mut [u8], v: u32)
-    requires { ⌜ Within (now area) ownerAt ⌝ }
-    ensures { λ _. ⌜ now (area .exit) ≡ putWord (now (area .entry)) ownerAt v ⌝ }
+// What becomes of a table: the column of words at from, from + stride, ..
+pub fn set_entry(area: &mut [u8], from: usize, stride: usize, e: Entry)
+    requires { ⌜ EntryWithin (now area) from stride e ⌝ }
+    ensures { λ _. ⌜ (now (area .exit) ≡ putEntry (now (area .entry)) from stride e) × EntryFits e ⌝ }
 {
-    put_word(area, OWNER_AT, v);
+    match e {
+        Entry::Keep => {}
+        Entry::Put(k, v) => {
+            let cell = from + stride * (k as usize);
+            put_word(area, cell, v);
+        }
+    }
 }
 
 pub fn set_thread(area: &mut [u8], k: usize, r: Thread)
     requires { ⌜ Within (now area) (threadsAt + threadWords * k + 6) ⌝ }
-    ensures { λ _. ⌜ now (area .exit) ≡ putThread (now (area .entry)) (threadsAt + threadWords * k) r ⌝ }
+    ensures { λ _. ⌜ (now (area .exit) ≡ putThread (now (area .entry)) (threadsAt + threadWords * k) r) × Small r ⌝ }
 {
     let cell = THREADS_AT + THREAD_WORDS * k;
     put_word(area, cell, r.op);
@@ -305,54 +320,6 @@ pub fn set_thread(area: &mut [u8], k: usize, r: Thread)
     put_word(area, cell + 4, r.p);
     put_word(area, cell + 5, r.q);
     put_word(area, cell + 6, r.h);
-}
-
-pub fn set_map(area: &mut [u8], t: usize, k: usize, v: u32)
-    requires { ⌜ (t ≤ mostThreads) × Within (now area) (mapAt t + k) ⌝ }
-    ensures { λ _. ⌜ now (area .exit) ≡ putWord (now (area .entry)) (mapAt t + k) v ⌝ }
-{
-    let cell = map_at(t) + k;
-    put_word(area, cell, v);
-}
-
-pub fn set_locks(area: &mut [u8], t: usize, n: usize, k: usize, v: u32)
-    requires { ⌜ (t ≤ mostThreads) × (n ≤ mostNumbers) × Within (now area) (locksAt t n + k) ⌝ }
-    ensures { λ _. ⌜ now (area .exit) ≡ putWord (now (area .entry)) (locksAt t n + k) v ⌝ }
-{
-    let cell = locks_at(t, n) + k;
-    put_word(area, cell, v);
-}
-
-pub fn set_header(area: &mut [u8], t: usize, n: usize, k: usize, v: u32)
-    requires { ⌜ (t ≤ mostThreads) × (n ≤ mostNumbers) × Within (now area) (blocksAt t n + blockWords * k) ⌝ }
-    ensures { λ _. ⌜ now (area .exit) ≡ putWord (now (area .entry)) (blocksAt t n + blockWords * k) v ⌝ }
-{
-    let cell = blocks_at(t, n) + BLOCK_WORDS * k;
-    put_word(area, cell, v);
-}
-
-pub fn set_content(area: &mut [u8], t: usize, n: usize, k: usize, v: u32)
-    requires { ⌜ (t ≤ mostThreads) × (n ≤ mostNumbers) × Within (now area) (blocksAt t n + 1 + blockWords * k) ⌝ }
-    ensures { λ _. ⌜ now (area .exit) ≡ putWord (now (area .entry)) (blocksAt t n + 1 + blockWords * k) v ⌝ }
-{
-    let cell = blocks_at(t, n) + CONTENT + BLOCK_WORDS * k;
-    put_word(area, cell, v);
-}
-
-pub fn set_wear(area: &mut [u8], t: usize, n: usize, k: usize, v: u32)
-    requires { ⌜ (t ≤ mostThreads) × (n ≤ mostNumbers) × Within (now area) (blocksAt t n + 2 + blockWords * k) ⌝ }
-    ensures { λ _. ⌜ now (area .exit) ≡ putWord (now (area .entry)) (blocksAt t n + 2 + blockWords * k) v ⌝ }
-{
-    let cell = blocks_at(t, n) + WEAR + BLOCK_WORDS * k;
-    put_word(area, cell, v);
-}
-
-pub fn set_own(area: &mut [u8], t: usize, n: usize, k: usize, v: u32)
-    requires { ⌜ (t ≤ mostThreads) × (n ≤ mostNumbers) × Within (now area) (blocksAt t n + 3 + blockWords * k) ⌝ }
-    ensures { λ _. ⌜ now (area .exit) ≡ putWord (now (area .entry)) (blocksAt t n + 3 + blockWords * k) v ⌝ }
-{
-    let cell = blocks_at(t, n) + OWN + BLOCK_WORDS * k;
-    put_word(area, cell, v);
 }
 
 // ---- loading: the words of a column into an array of zeros, for each length that the working store has

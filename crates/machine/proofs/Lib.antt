@@ -1,3 +1,4 @@
 -- The laws that the machine's proofs cite.
 pub mod Search
 pub mod Registers
+pub mod Reaching

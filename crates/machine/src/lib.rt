@@ -10,8 +10,9 @@ ghost use Rattle.meaning.specs.Limits.{mostThreads, mostNumbers, mostBlocks, mo
 ghost use Rattle.meaning.specs.Holding.{free, named as namedOf};
 ghost use Rattle.meaning.specs.Programs.{actAt};
 ghost use Rattle.meaning.specs.Choosing.{lowestFree, challenge, toBlock, leastWorn, fromBlock};
-ghost use Rattle.meaning.specs.Step.{perform as performOf};
-ghost use Rattle.store.specs.Live.{table, Live};
+ghost use Rattle.meaning.specs.Step.{perform as performOf, apply as applyOf};
+ghost use Rattle.store.specs.Live.{table, Live, EntryBelow, made};
+ghost use Rattle.machine.specs.Settling.{Places, Reached, unblocked, onBlocks};
 ghost use Rattle.store.specs.Area.{decode};
 ghost use Rattle.machine.specs.Judging.{placeOf, chosenOf, pickedOf, ofReg, touchesOf, Sees, Searches, nearOf, Steady, AtLine};
 
@@ -308,4 +309,53 @@ pub fn judge(area: &[u8], z: Sizes, t: u32, r: Thread) -> Verdict
     let act = acts::act_at(r.op, r.line);
     let words = words_near(r, s.lock, s.owner, &s.map, &s.locks, &s.header, &s.content, &s.wear, &s.own);
     perform(act, t, r, words, &s.header, &s.wear, s.p, s.d)
+}
+
+// ---- doing it
+
+// What becomes of H, the headers' owner, the map and the block locks.
+fn settle_numbers(area: &mut [u8], z: Sizes, lock: Word, owner: Word, map: Entry, locks: Entry)
+    requires { ⌜ Live (now area) (z .t) (z .n) (z .p) × EntryBelow (z .n) map × EntryBelow (z .n) locks ⌝ }
+    ensures { λ _. ⌜ Reached (now (area .entry)) (now (area .exit)) (z .t) (z .n) (z .p) (made (decode (now (area .entry))) (unblocked lock owner map locks)) ⌝ }
+{
+    let t = z.t;
+    let n = z.n;
+    let map_at = store::map_at(t);
+    let locks_at = store::locks_at(t, n);
+    store::set_word(area, store::LOCK_AT, lock);
+    store::set_word(area, store::OWNER_AT, owner);
+    store::set_entry(area, map_at, 1, map);
+    store::set_entry(area, locks_at, 1, locks);
+}
+
+// What becomes of the blocks.
+fn settle_blocks(area: &mut [u8], z: Sizes, header: Entry, content: Entry, wear: Entry, own: Entry)
+    requires { ⌜ Live (now area) (z .t) (z .n) (z .p) × EntryBelow (z .p) header × EntryBelow (z .p) content × EntryBelow (z .p) wear × EntryBelow (z .p) own ⌝ }
+    ensures { λ _. ⌜ Reached (now (area .entry)) (now (area .exit)) (z .t) (z .n) (z .p) (made (decode (now (area .entry))) (onBlocks header content wear own)) ⌝ }
+{
+    let t = z.t;
+    let n = z.n;
+    let at = store::blocks_at(t, n);
+    store::set_entry(area, at, store::BLOCK_WORDS, header);
+    store::set_entry(area, at + store::CONTENT, store::BLOCK_WORDS, content);
+    store::set_entry(area, at + store::WEAR, store::BLOCK_WORDS, wear);
+    store::set_entry(area, at + store::OWN, store::BLOCK_WORDS, own);
+}
+
+// Thread k's record and an effect.
+pub fn settle(area: &mut [u8], z: Sizes, k: usize, r: Thread, e: Effect)
+    requires { ⌜ Live (now area) (z .t) (z .n) (z .p) × (k < z .t) × Places (z .n) (z .p) e ⌝ }
+    ensures { λ _. ⌜ Reached (now (area .entry)) (now (area .exit)) (z .t) (z .n) (z .p) (applyOf (decode (now (area .entry))) k r e) ⌝ }
+{
+    let lock = e.lock;
+    let owner = e.owner;
+    let map = e.map;
+    let locks = e.locks;
+    let header = e.header;
+    let content = e.content;
+    let wear = e.wear;
+    let own = e.own;
+    store::set_thread(area, k, r);
+    settle_numbers(area, z, lock, owner, map, locks);
+    settle_blocks(area, z, header, content, wear, own);
 }

@@ -19,7 +19,7 @@ use Rattle.meaning.specs.Step.{become, put, apply, nothing, onLock, onOwner, on
 use Rattle.meaning.specs.Limits.{mostWord}
 use Rattle.store.specs.Layout.{tAt, nAt, pAt, dAt, lockAt, ownerAt, threadsAt, threadWords, mapAt, locksAt, blocksAt, blockWords}
 use Rattle.store.specs.Area.{word, putWord, putThread, putBecome, putEntry, threadFrom, column, storeOf, decode}
-use Rattle.store.specs.Live.{Live, Within, EntryWithin, BecomeFits, EntryFits, EntryBelow, Small}
+use Rattle.store.specs.Live.{Live, Within, EntryWithin, BecomeFits, EntryFits, EntryBelow, Small, made}
 use Rattle.store.proofs.Words.{word-put, length-putWord}
 use Rattle.store.proofs.Decode.{decode-live}
 
@@ -170,25 +170,6 @@ put-clear : (at : ℕ → ℕ) (w v i : ℕ) → Clear w (w + 1) i → upd at w 
 put-clear at w v i c = upd-other at w v i (λ e. c (omega arith) (omega arith))
 
 -- ---- the store with an effect
-
--- s with the effect alone, and with the thread's record alone: together what a step leaves
-abbrev pub made : Store → Effect → Store
-made s e =
-    record {
-      threads = s .threads;
-      numbers = s .numbers;
-      blocks = s .blocks;
-      distance = s .distance;
-      lock = become (e .lock) (s .lock);
-      owner = become (e .owner) (s .owner);
-      thread = s .thread;
-      map = put (e .map) (s .map);
-      locks = put (e .locks) (s .locks);
-      header = put (e .header) (s .header);
-      content = put (e .content) (s .content);
-      wear = put (e .wear) (s .wear);
-      own = put (e .own) (s .own);
-    }
 
 pub apply-made : (s : Store) (t : ℕ) (r : Thread) (e : Effect) → apply s t r e ≡ made (apply s t r nothing) e
 apply-made s t r e = refl

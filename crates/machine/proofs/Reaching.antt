@@ -1,0 +1,105 @@
+-- A setter after the other: the store that the area holds after each. Assumes nothing.
+use mathlib.Core.Path.{_≡_, refl, _∙_, sym, ap}
+use mathlib.Core.List.{List}
+use Prim.Native.Nat.{ℕ, _+_, _*_, _<_}
+use native.Mathlib.Omega.{arith}
+use Rattle.meaning.specs.declared.Thread.{Thread}
+use Rattle.meaning.specs.declared.Word.{Word}
+use Rattle.meaning.specs.declared.Word.the-variants.{Stay, Become}
+use Rattle.meaning.specs.declared.Entry.{Entry}
+use Rattle.meaning.specs.declared.Entry.the-variants.{Keep, Put}
+use Rattle.meaning.specs.declared.Effect.{Effect}
+use Rattle.meaning.specs.Store.{Store}
+use Rattle.meaning.specs.Step.{apply, nothing}
+use Rattle.store.specs.Layout.{pAt, lockAt, ownerAt, threadsAt, threadWords}
+use Rattle.store.specs.Area.{Bytes, decode, putWord, putBecome, putEntry, putThread}
+use Rattle.store.specs.Live.{Live, Within, BecomeFits, EntryFits, EntryBelow, EntryWithin, Small, made}
+use Rattle.store.proofs.Words.{bytes-put}
+use Rattle.store.proofs.Tables.{lockOnly, ownerOnly, live-become, live-entry, within-entry, decode-lock, decode-owner, live-thread, decode-thread}
+use Rattle.machine.specs.Settling.{Reached}
+
+-- at the start
+pub reached-start : {a : List ℕ} {t n p : ℕ} → Live a t n p → Reached a a t n p (decode a)
+reached-start live = record { decoded = refl; live = live; bytes = λ h. h }
+
+bytes-become : (a : List ℕ) (k : ℕ) (w : Word) → Bytes a → Bytes (putBecome a k w)
+bytes-become a k Stay h = h
+bytes-become a k (Become v) h = bytes-put a k v h
+
+bytes-entry : (a : List ℕ) (from stride : ℕ) (e : Entry) → Bytes a → Bytes (putEntry a from stride e)
+bytes-entry a from stride Keep h = h
+bytes-entry a from stride (Put k v) h = bytes-put a (from + stride * k) v h
+
+bytes-thread : (a : List ℕ) (k : ℕ) (r : Thread) → Bytes a → Bytes (putThread a k r)
+bytes-thread a k r h =
+    bytes-put a₆ (k + 6) (r .h)
+    (bytes-put a₅ (k + 5) (r .q)
+    (bytes-put a₄ (k + 4) (r .p)
+    (bytes-put a₃ (k + 3) (r .c) (bytes-put a₂ (k + 2) (r .n) (bytes-put a₁ (k + 1) (r .line) (bytes-put a k (r .op) h))))))
+  where
+    a₁ : List ℕ
+    a₁ = putWord a k (r .op)
+
+    a₂ : List ℕ
+    a₂ = putWord a₁ (k + 1) (r .line)
+
+    a₃ : List ℕ
+    a₃ = putWord a₂ (k + 2) (r .n)
+
+    a₄ : List ℕ
+    a₄ = putWord a₃ (k + 3) (r .c)
+
+    a₅ : List ℕ
+    a₅ = putWord a₄ (k + 4) (r .p)
+
+    a₆ : List ℕ
+    a₆ = putWord a₅ (k + 5) (r .q)
+
+module _ {a b : List ℕ} {t n p : ℕ} {s : Store} (r : Reached a b t n p s) where
+  pub reached-lock : {c : List ℕ} (w : Word) → c ≡ putBecome b lockAt w → BecomeFits w → Reached a c t n p (made s (lockOnly w))
+  reached-lock w e f =
+      rw e
+      (record {
+        decoded = decode-lock (r .live) w f ∙ ap (λ x. made x (lockOnly w)) (r .decoded);
+        live = live-become (r .live) lockAt w (omega (arith, r .live .fits)) (omega arith) f;
+        bytes = λ h. bytes-become b lockAt w (r .bytes h)
+      })
+
+  pub reached-owner : {c : List ℕ} (w : Word) → c ≡ putBecome b ownerAt w → BecomeFits w → Reached a c t n p (made s (ownerOnly w))
+  reached-owner w e f =
+      rw e
+      (record {
+        decoded = decode-owner (r .live) w f ∙ ap (λ x. made x (ownerOnly w)) (r .decoded);
+        live = live-become (r .live) ownerAt w (omega (arith, r .live .fits)) (omega arith) f;
+        bytes = λ h. bytes-become b ownerAt w (r .bytes h)
+      })
+
+  -- a table at `from`, with what the law of that table says
+  pub reached-entry :
+      {c : List ℕ} (from stride count place : ℕ) (e : Entry) (x : Effect) → place ≡ from → c ≡ putEntry b place stride e → EntryFits e →
+      EntryBelow count e → ((k : ℕ) → k < count → Within b (from + stride * k) × (pAt < from + stride * k)) →
+      decode (putEntry b from stride e) ≡ made (decode b) x → Reached a c t n p (made s x)
+  reached-entry from stride count place e x q i f h inside law =
+      rw (i, q)
+      (record {
+        decoded = law ∙ ap (λ y. made y x) (r .decoded);
+        live = live-entry (r .live) from stride count e h inside f;
+        bytes = λ y. bytes-entry b from stride e (r .bytes y)
+      })
+
+  pub reached-thread :
+      {c : List ℕ} (k : ℕ) (x : Thread) → c ≡ putThread b (threadsAt + threadWords * k) x → Small x → k < t →
+      Reached a c t n p (apply s k x nothing)
+  reached-thread k x e f h =
+      rw e
+      (record {
+        decoded = decode-thread (r .live) k x f h ∙ ap (λ y. apply y k x nothing) (r .decoded);
+        live = live-thread (r .live) k x f h;
+        bytes = λ y. bytes-thread b (threadsAt + threadWords * k) x (r .bytes y)
+      })
+
+-- what a setter of a table asks
+pub entry-within :
+    {b : List ℕ} {t n p : ℕ} (live : Live b t n p) (from stride count place : ℕ) (e : Entry) → place ≡ from → EntryBelow count e →
+    ((k : ℕ) → k < count → Within b (from + stride * k) × (pAt < from + stride * k)) → EntryWithin b place stride e
+entry-within live from stride count place e q h inside = rw q (within-entry live from stride count e h inside)

@@ -1,0 +1,54 @@
+-- What doing a verdict asks of an area and what it leaves.
+use mathlib.Core.List.{List}
+use mathlib.Core.Path.{_≡_}
+use Prim.Native.Nat.{ℕ, _<_}
+use Rattle.meaning.specs.declared.Word.{Word}
+use Rattle.meaning.specs.declared.Word.the-variants.{Stay}
+use Rattle.meaning.specs.declared.Entry.{Entry}
+use Rattle.meaning.specs.declared.Entry.the-variants.{Keep}
+use Rattle.meaning.specs.declared.Effect.{Effect}
+use Rattle.meaning.specs.Store.{Store}
+use Rattle.store.specs.Area.{Bytes, decode}
+use Rattle.store.specs.Live.{Live, EntryBelow}
+
+-- the effect's entries are below their tables' sizes
+pub record Places (n p : ℕ) (e : Effect) : Type 0 where
+  pub map : EntryBelow n (e .map)
+  pub locks : EntryBelow n (e .locks)
+  pub header : EntryBelow p (e .header)
+  pub content : EntryBelow p (e .content)
+  pub wear : EntryBelow p (e .wear)
+  pub own : EntryBelow p (e .own)
+
+-- area b holds store s, with the sizes that area a had, and is of bytes where a is
+pub record Reached (a b : List ℕ) (t n p : ℕ) (s : Store) : Type 0 where
+  pub decoded : decode b ≡ s
+  pub live : Live b t n p
+  pub bytes : Bytes a → Bytes b
+
+-- what touches no block, and what touches nothing else
+abbrev pub unblocked : Word → Word → Entry → Entry → Effect
+unblocked lock owner map locks =
+    record {
+      lock = lock;
+      owner = owner;
+      map = map;
+      locks = locks;
+      header = Keep;
+      content = Keep;
+      wear = Keep;
+      own = Keep
+    }
+
+abbrev pub onBlocks : Entry → Entry → Entry → Entry → Effect
+onBlocks header content wear own =
+    record {
+      lock = Stay;
+      owner = Stay;
+      map = Keep;
+      locks = Keep;
+      header = header;
+      content = content;
+      wear = wear;
+      own = own
+    }

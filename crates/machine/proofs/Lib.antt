@@ -2,3 +2,4 @@
 pub mod Search
 pub mod Registers
 pub mod Reaching
+pub mod Placing

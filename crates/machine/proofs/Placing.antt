@@ -1,0 +1,100 @@
+-- The entries that a verdict's effect puts to are within their tables: they are those of registers n, p and q. Assumes nothing.
+use mathlib.Core.Path.{_≡_, refl}
+use mathlib.Core.Bool.{Bool, true, false}
+use Prim.Native.Nat.{ℕ, _<_}
+use lib.Dec.{ltb}
+use Rattle.meaning.specs.declared.Act.{Act}
+use Rattle.meaning.specs.declared.Act.the-variants.{Nothing, TakeH, ReleaseH, FinishH, TakeN, ReleaseN, FinishN, OwnHeaders, LetGoHeaders, Own, LetGo, GoIfMapped, GoIfUnmapped, EmptyIfUnmapped, GoIfFree, PickFree, Choose, ReadHeader, WriteHeaderN, WriteHeaderH, FreeHeader, EmptyContent, ReadContent, WriteContent, MapTo, Unmap}
+use Rattle.meaning.specs.declared.Thread.{Thread}
+use Rattle.meaning.specs.declared.Effect.{Effect}
+use Rattle.meaning.specs.declared.Found.{Found}
+use Rattle.meaning.specs.declared.Found.the-variants.{Nobody, At}
+use Rattle.meaning.specs.declared.Verdict.{Verdict}
+use Rattle.meaning.specs.declared.Verdict.the-variants.{Blocked, Fault, Go, Done}
+use Rattle.meaning.specs.Store.{Store}
+use Rattle.meaning.specs.Holding.{none, free, by, heldBy, naming}
+use Rattle.meaning.specs.Choosing.{lowestFree, toBlock, leastWorn}
+use Rattle.meaning.specs.Step.{perform, choosing, heads, touches, worn, block, nothing, onLock, onOwner, onMap, onLocks, onHeader, onContent, onFreed, onOwn}
+use Rattle.machine.specs.Settling.{Places}
+use Rattle.machine.proofs.Registers.{block-below}
+
+abbrev pub Placed : ℕ → ℕ → Verdict → Type 0
+Placed n p Blocked = Unit {0}
+Placed n p Fault = Unit {0}
+Placed n p (Go r e) = Places n p e
+Placed n p (Done v e) = Places n p e
+
+-- a line that goes by a test
+by-test : {A : Type 0} (b : Bool) → (b ≡ true → A) → (b ≡ false → A) → A
+by-test true f g = f refl
+by-test false f g = g refl
+
+module _ (n p : ℕ) where
+  pub nowhere : Places n p nothing
+  nowhere = record { map = tt; locks = tt; header = tt; content = tt; wear = tt; own = tt }
+
+  at-lock : (w : ℕ) → Places n p (onLock w)
+  at-lock w = record { map = tt; locks = tt; header = tt; content = tt; wear = tt; own = tt }
+
+  at-owner : (w : ℕ) → Places n p (onOwner w)
+  at-owner w = record { map = tt; locks = tt; header = tt; content = tt; wear = tt; own = tt }
+
+  at-map : (k w : ℕ) → k < n → Places n p (onMap k w)
+  at-map k w h = record { map = h; locks = tt; header = tt; content = tt; wear = tt; own = tt }
+
+  at-locks : (k w : ℕ) → k < n → Places n p (onLocks k w)
+  at-locks k w h = record { map = tt; locks = h; header = tt; content = tt; wear = tt; own = tt }
+
+  at-header : (m w : ℕ) → m < p → Places n p (onHeader m w)
+  at-header m w h = record { map = tt; locks = tt; header = h; content = tt; wear = tt; own = tt }
+
+  at-content : (m w : ℕ) → m < p → Places n p (onContent m w)
+  at-content m w h = record { map = tt; locks = tt; header = tt; content = h; wear = tt; own = tt }
+
+  at-freed : (m w : ℕ) → m < p → Places n p (onFreed m w)
+  at-freed m w h = record { map = tt; locks = tt; header = h; content = tt; wear = h; own = tt }
+
+  at-own : (m w : ℕ) → m < p → Places n p (onOwn m w)
+  at-own m w h = record { map = tt; locks = tt; header = tt; content = tt; wear = tt; own = h }
+
+  at-choice : (s : Store) (r : Thread) (to from : Found) → Placed n p (choosing s r to from)
+  at-choice s r Nobody from = tt
+  at-choice s r (At to) from = nowhere
+
+  module _ (s : Store) (t : ℕ) (r : Thread) (hn : r .n < n) (hp : r .p < p) (hq : r .q < p) where
+    pub perform-placed : (act : Act) → Placed n p (perform act s t r)
+    perform-placed Nothing = tt
+    perform-placed TakeH = by-test (free (s .lock)) (λ y. rw y (at-lock (by t))) (λ y. rw y tt)
+    perform-placed ReleaseH = by-test (heldBy t (s .lock)) (λ y. rw y (at-lock none)) (λ y. rw y tt)
+    perform-placed (FinishH a) = by-test (heldBy t (s .lock)) (λ y. rw y (at-lock none)) (λ y. rw y tt)
+    perform-placed TakeN = by-test (free (s .locks (r .n))) (λ y. rw y (at-locks (r .n) (by t) hn)) (λ y. rw y tt)
+    perform-placed ReleaseN = by-test (heldBy t (s .locks (r .n))) (λ y. rw y (at-locks (r .n) none hn)) (λ y. rw y tt)
+    perform-placed (FinishN a) = by-test (heldBy t (s .locks (r .n))) (λ y. rw y (at-locks (r .n) none hn)) (λ y. rw y tt)
+    perform-placed OwnHeaders = by-test (free (s .owner)) (λ y. rw y (at-owner (by t))) (λ y. rw y tt)
+    perform-placed LetGoHeaders = by-test (heldBy t (s .owner)) (λ y. rw y (at-owner none)) (λ y. rw y tt)
+    perform-placed (Own b) = by-test (free (s .own (block b r))) (λ y. rw y (at-own (block b r) (by t) (block-below b r p hp hq))) (λ y. rw y tt)
+    perform-placed (LetGo b) = by-test (heldBy t (s .own (block b r))) (λ y. rw y (at-own (block b r) none (block-below b r p hp hq))) (λ y. rw y tt)
+    perform-placed (GoIfMapped l) = by-test (free (s .map (r .n))) (λ y. rw y nowhere) (λ y. rw y nowhere)
+    perform-placed (GoIfUnmapped l) = by-test (free (s .map (r .n))) (λ y. rw y nowhere) (λ y. rw y nowhere)
+    perform-placed (EmptyIfUnmapped l) = by-test (free (s .map (r .n))) (λ y. rw y nowhere) (λ y. rw y nowhere)
+    perform-placed (GoIfFree l) = by-test (free (r .h)) (λ y. rw y nowhere) (λ y. rw y nowhere)
+    perform-placed PickFree = 
+        by-test (heldBy t (s .owner))
+        (λ y.
+        by-test (ltb (lowestFree (s .header) (s .blocks)) (s .blocks)) (λ z. rw (y, z) nowhere) (λ z. rw (y, z) tt))
+        (λ y. rw y tt)
+    perform-placed Choose = 
+        by-test (heldBy t (s .owner))
+        (λ y.
+        rw y
+        (at-choice s r (toBlock (s .header) (s .wear) (s .blocks)) (leastWorn (s .header) (s .wear) (s .blocks))))
+        (λ y. rw y tt)
+    perform-placed ReadHeader = by-test (heldBy t (s .owner)) (λ y. rw y (nowhere)) (λ y. rw y tt)
+    perform-placed WriteHeaderN = by-test (heads s t (r .p)) (λ y. rw y (at-header (r .p) (naming (r .n)) hp)) (λ y. rw y tt)
+    perform-placed WriteHeaderH = by-test (heads s t (r .q)) (λ y. rw y (at-header (r .q) (r .h) hq)) (λ y. rw y tt)
+    perform-placed FreeHeader = by-test (heads s t (r .p)) (λ y. rw y (at-freed (r .p) (worn (s .wear (r .p))) hp)) (λ y. rw y tt)
+    perform-placed EmptyContent = by-test (touches s t (r .p)) (λ y. rw y (at-content (r .p) 0 hp)) (λ y. rw y tt)
+    perform-placed ReadContent = by-test (touches s t (r .p)) (λ y. rw y (nowhere)) (λ y. rw y tt)
+    perform-placed (WriteContent b) = by-test (touches s t (block b r)) (λ y. rw y (at-content (block b r) (r .c) (block-below b r p hp hq))) (λ y. rw y tt)
+    perform-placed (MapTo b) = at-map (r .n) (naming (block b r)) hn
+    perform-placed Unmap = at-map (r .n) none hn

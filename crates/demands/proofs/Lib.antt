@@ -1,0 +1,2 @@
+-- The demands over byte areas, and the bridge to them from what is proved of stores.
+pub mod Range

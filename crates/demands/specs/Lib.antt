@@ -1,0 +1,1 @@
+-- The definitions that the demands' statements have of their own.

@@ -1,3 +1,4 @@
 -- The demands over byte areas, and the bridge to them from what is proved of stores.
 pub mod Range
 pub mod Bridge
+pub mod Demand1

@@ -1,1 +1,2 @@
 -- The definitions that the demands' statements have of their own.
+pub mod Demand1

@@ -285,7 +285,7 @@ grown-no-fault a g t x =
     no-fault (decode a) (grown-inv a g) t (ltb-true t _ (z .1 .0)) (not-true _ (z .1 .1 .0)) (z .1 .1 .1)
 
 -- the number is that of the call on the store
-number-decoded : (a : List ℕ) → wellFormed a ≡ true → (e : Entry) → callArea a e .number ≡ callStore (decode a) e .number
+pub number-decoded : (a : List ℕ) → wellFormed a ≡ true → (e : Entry) → callArea a e .number ≡ callStore (decode a) e .number
 number-decoded a f e = rw f (go (calling (decode a) e))
   where
     go : (o : Outcome) → said a o ≡ reply (λ s. s) (decode a) o .number

@@ -2,3 +2,4 @@
 pub mod Range
 pub mod Bridge
 pub mod Demand1
+pub mod EitherOrder

@@ -1,2 +1,3 @@
 -- The definitions that the demands' statements have of their own.
 pub mod Demand1
+pub mod EitherOrder

@@ -238,9 +238,9 @@ module _ (a : List ℕ) where
   refusal-keeps = (
     λ e. call-refusing e .0,
     λ t n p d.
-    either-way (inLimits t n p d)
-    (λ l. rw l (either-way (eqb (length a) (size t n p)) (λ f. rw f (λ x. absurd (omega arith))) (λ f. rw f (λ x. refl))))
-    (λ l. rw l (λ x. refl)),
+        either-way (inLimits t n p d)
+        (λ l. rw l (either-way (eqb (length a) (size t n p)) (λ f. rw f (λ x. absurd (omega arith))) (λ f. rw f (λ x. refl))))
+        (λ l. rw l (λ x. refl)),
   )
 
   pub unfinished-value : (e : Entry) → (callArea a e .number ≡ FINISHED → ⊥) → callArea a e .value ≡ 0

@@ -3,3 +3,4 @@ pub mod Range
 pub mod Bridge
 pub mod Demand1
 pub mod EitherOrder
+pub mod Reached

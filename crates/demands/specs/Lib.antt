@@ -1,3 +1,4 @@
 -- The definitions that the demands' statements have of their own.
 pub mod Demand1
 pub mod EitherOrder
+pub mod Reached

@@ -3,31 +3,31 @@
 -- area of bytes that holds what that call leaves (`after-call`); a schedule likewise (`run-decoded` and the laws beside it). What is
 -- proved of stores is thereby proved of areas.
 -- Assumes nothing.
-use mathlib.Core.Path.{_≡_, refl, sym, _∙_, ap, ap₂, subst}
-use mathlib.Core.Bool.{Bool, true, false, cond, _&&_}
+use mathlib.Core.Path.{_≡_, refl, sym, _∙_, ap, subst}
+use mathlib.Core.Bool.{true, _&&_}
 use mathlib.Core.List.{List, [], _∷_, _++_}
-use mathlib.Core.Logic.{_⊎_, inl, inr, _↔_}
-use Prim.Native.Nat.{ℕ, zero, suc, _+_, _*_, _/_, _%_, _<_, _≤_}
+use mathlib.Core.Logic.{inl, inr}
+use Prim.Native.Nat.{ℕ, zero, suc, _+_, _*_, _<_, _≤_}
 use native.Mathlib.Omega.{arith}
-use lib.Dec.{eqb, ltb, leb}
+use lib.Dec.{eqb, ltb}
 use lib.ListN.{getD, length}
-use borrow.Author.Tests.{eqb-true, lt-ltb, le-ltb}
+use borrow.Author.Tests.{lt-ltb, le-ltb}
 use Rattle.meaning.specs.declared.Thread.{Thread}
-use Rattle.meaning.specs.Numbers.{WENT, FINISHED, SHAPE}
+use Rattle.meaning.specs.Numbers.{WENT, FINISHED}
 use Rattle.meaning.specs.Limits.{mostWord, inLimits}
-use Rattle.meaning.specs.Store.{Store, idle, fresh}
-use Rattle.meaning.specs.Programs.{LEVEL}
-use Rattle.meaning.specs.Call.{Reply, Outcome, refused, left, reply, check, Entry, begin, step, calling, callStore}
+use Rattle.meaning.specs.Store.{Store, fresh}
+use Rattle.meaning.specs.Call.{Reply, Outcome, refused, left, reply, Entry, begin, step, calling, callStore}
 use Rattle.meaning.specs.Schedule.{Words, run, replies, Grown as GrownStore, formatted, called, order, begunBy, finishedBy, placing, starting, finishing, Operation, Answered, operation, emit, takesLast}
-use Rattle.meaning.proofs.Words.{either-way, clash}
+use Rattle.meaning.proofs.Words.{either-way}
 use Rattle.meaning.proofs.Invariant.{Inv}
 use Rattle.meaning.proofs.Demand1.{inv-fresh, inv-grown}
-use Rattle.store.specs.Layout.{tAt, nAt, pAt, size}
-use Rattle.store.specs.Area.{Bytes, word, bytes, rows, threadRow, blockRow, words, encode, threadFrom, column, decode, wellFormed}
-use Rattle.store.specs.Calls.{formatArea, callArea, Formatted, format, Grown}
-use Rattle.store.proofs.Sound.{Working, SoundThread, Sound, Fitted, wellFormed-sound}
+use Rattle.store.specs.Layout.{tAt, size}
+use Rattle.store.specs.Area.{Bytes, word, bytes, rows, threadRow, blockRow, words, encode, column, decode, wellFormed}
+use Rattle.store.specs.Calls.{formatArea, callArea, format, Grown}
+use Rattle.store.proofs.Sound.{SoundThread, Sound, wellFormed-sound}
 use Rattle.store.proofs.Codec.{InRange, encode-decode, decode-encode, length-encode}
-use Rattle.demands.proofs.Range.{Cell, Seat, Ranged, ranged-fresh, few-lines, Leaves, calling-ranged}
+use Rattle.demands.specs.Schedule.{AllWords, FreshStore, in-limits}
+use Rattle.demands.proofs.Range.{Cell, Ranged, ranged-fresh, few-lines, Leaves, calling-ranged}
 
 -- ---- a well-formed area of bytes holds a store in range
 
@@ -216,11 +216,6 @@ after-call a g e w = rw (g .formed) (go (calling (decode a) e) (calling-ranged (
 
 -- ---- a schedule
 
--- all entries' numbers are words
-abbrev pub AllWords : List Entry → Type 0
-AllWords [] = Unit {0}
-AllWords (e ∷ w) = Words e × AllWords w
-
 pub run-good : (a : List ℕ) → Good a → (w : List Entry) → AllWords w → Good (run callArea a w)
 run-good a g [] x = g
 run-good a g (e ∷ w) x = run-good (callArea a e .after) (after-call a g e (x .0) .good) w (x .1)
@@ -285,10 +280,6 @@ finishedBy-decoded a g t (e ∷ w) x =
         emit (eqb (m .number i) FINISHED && eqb u t) (record { op = decode a .thread u .op; value = m .value i }) (rest i)
 
 -- ---- formatted and grown areas
-
--- a store that a format in limits makes
-pub data FreshStore : Store → Type 0 where
-  in-limits : (t n p d : ℕ) → inLimits t n p d ≡ true → FreshStore (fresh t n p d)
 
 -- what a format that gave WENT leaves
 pub record Starts (a : List ℕ) (t n p d : ℕ) : Type 0 where

@@ -9,213 +9,31 @@
 --  * grown-progress: where some thread of an area grown from fresh has open work, some open thread's step answers WENT or FINISHED.
 -- What FAULT, BLOCKED and open threads look like is computed in Reached.
 use mathlib.Core.Path.{_≡_, refl, sym, subst}
-use mathlib.Core.Bool.{Bool, true, false, not, _||_}
+use mathlib.Core.Bool.{true}
 use mathlib.Core.List.{List}
-use mathlib.Core.Logic.{_↔_}
-use Prim.Native.Nat.{ℕ, _<_, _≤_}
+use Prim.Native.Nat.{ℕ, _≤_}
 use native.Mathlib.Omega.{arith}
-use lib.Dec.{eqb, ltb, leb}
+use lib.Dec.{eqb}
 use lib.ListN.{length}
 use borrow.Author.Tests.{ltb-true, leb-true, not-true}
-use Rattle.meaning.specs.declared.Thread.{Thread}
-use Rattle.meaning.specs.declared.Effect.{Effect}
-use Rattle.meaning.specs.declared.Verdict.{Verdict}
-use Rattle.meaning.specs.declared.Verdict.the-variants.{Blocked, Fault, Go, Done}
-use Rattle.meaning.specs.Numbers.{WENT, FINISHED, BLOCKED, SHAPE, THREAD, BUSY, IDLE, LOGICAL, OPERATION, FAULT, LIMITS}
-use Rattle.meaning.specs.Limits.{within, inLimits}
-use Rattle.meaning.specs.Store.{Store, idle, fresh}
-use Rattle.meaning.specs.Programs.{WRITE, LEVEL}
-use Rattle.meaning.specs.Step.{nothing, verdict, apply}
-use Rattle.meaning.specs.Call.{Reply, Outcome, refused, left, reply, check, isIdle, begun, told, Entry, begin, step, calling, callStore}
+use Rattle.meaning.specs.Numbers.{FINISHED, BLOCKED, SHAPE, FAULT}
+use Rattle.meaning.specs.Limits.{inLimits}
+use Rattle.meaning.specs.Store.{Store}
+use Rattle.meaning.specs.Call.{Outcome, refused, left, reply, check, Entry, begin, step, calling, callStore}
 use Rattle.meaning.specs.Schedule.{Words}
 use Rattle.meaning.proofs.Words.{either-way, clash}
 use Rattle.meaning.proofs.Demand1.{no-fault, progress}
 use Rattle.store.specs.Layout.{size}
 use Rattle.store.specs.Area.{Bytes, encode, decode, wellFormed}
 use Rattle.store.specs.Calls.{formatArea, callArea, stepArea, Grown}
-use Rattle.demands.specs.Demand1.{Past, FormatRefusals, BeginRefusals, StepRefusals, Refusals, Open, CanStep, SameSizes}
-use Rattle.demands.proofs.Bridge.{Good, after-call, grown-good, grown-inv}
+use Rattle.demands.specs.Demand1.{Refusals, Open, CanStep, SameSizes}
+use Rattle.demands.proofs.Refusals.{said, refusal-tables, calling-each}
+use Rattle.demands.proofs.Bridge.{after-call, grown-good, grown-inv}
 
--- ---- the tables of refusals
+-- ---- what a call answers and leaves, of every area
 
-module _ (a : List ℕ) where
-  -- the number that an outcome of a call on the area gives
-  abbrev said : Outcome → ℕ
-  said o = reply encode a o .number
-
-  -- a check's own number
-  said-own : (b : Bool) (number : ℕ) (o : Outcome) → (said o ≡ number → ⊥) → (said (check b number o) ≡ number) ↔ (b ≡ false)
-  said-own true number o apart = (λ e. absurd (apart e), λ e. clash refl e)
-  said-own false number o apart = (λ e. refl, λ e. refl)
-
-  -- a number of those after it
-  said-later : (b : Bool) (number other : ℕ) (o : Outcome) {C : Type 0} → (number ≡ other → ⊥) → (said o ≡ other) ↔ C →
-      (said (check b number o) ≡ other) ↔ ((b ≡ true) × C)
-  said-later true number other o apart f = (λ e. (refl, f .0 e), λ c. f .1 (c .1))
-  said-later false number other o apart f = (λ e. absurd (apart e), λ c. clash (c .0) refl)
-
-  -- a number of neither
-  said-never : (b : Bool) (number other : ℕ) (o : Outcome) → (number ≡ other → ⊥) → (said o ≡ other → ⊥) →
-      said (check b number o) ≡ other → ⊥
-  said-never true number other o apart never = never
-  said-never false number other o apart never = apart
-
-  -- the number of what is left where the last check holds
-  said-last : (b : Bool) (number other : ℕ) (o : Outcome) → (number ≡ other → ⊥) → said o ≡ other →
-      (said (check b number o) ≡ other) ↔ (b ≡ true)
-  said-last true number other o apart is = (λ e. refl, λ e. is)
-  said-last false number other o apart is = (λ e. absurd (apart e), λ e. clash e refl)
-
-  format-refusals : (t n p d : ℕ) → FormatRefusals a t n p d
-  format-refusals t n p d =
-      let done = left WENT 0 (fresh t n p d) in
-      let fits = eqb (length a) (size t n p) in
-      let limits = inLimits t n p d in
-      let fitted = check fits SHAPE done in
-      record {
-        limits = said-own limits LIMITS fitted (said-never fits SHAPE LIMITS done (λ e. omega arith) (λ e. omega arith));
-        shape = said-later limits LIMITS SHAPE fitted (λ e. omega arith) (said-own fits SHAPE done (λ e. omega arith));
-        went = said-later limits LIMITS WENT fitted (λ e. omega arith) (said-last fits SHAPE WENT done (λ e. omega arith) refl);
-      }
-
-  begin-refusals : (t op n c : ℕ) → BeginRefusals a t op n c
-  begin-refusals t op n c =
-      let s = decode a in
-      let o₅ = left WENT 0 (apply s t (begun op n c) nothing) in
-      let logical = eqb op LEVEL || ltb n (s .numbers) in
-      let o₄ = check logical LOGICAL o₅ in
-      let operation = within WRITE LEVEL op in
-      let o₃ = check operation OPERATION o₄ in
-      let busy = isIdle (s .thread t) in
-      let o₂ = check busy BUSY o₃ in
-      let thread = ltb t (s .threads) in
-      let o₁ = check thread THREAD o₂ in
-      let shape = wellFormed a in
-      record {
-        shape =
-            said-own shape SHAPE o₁
-            (said-never thread THREAD SHAPE o₂ (λ e. omega arith)
-            (said-never busy BUSY SHAPE o₃ (λ e. omega arith)
-            (said-never operation OPERATION SHAPE o₄ (λ e. omega arith)
-            (said-never logical LOGICAL SHAPE o₅ (λ e. omega arith) (λ e. omega arith)))));
-        thread =
-            said-later shape SHAPE THREAD o₁ (λ e. omega arith)
-            (said-own thread THREAD o₂
-            (said-never busy BUSY THREAD o₃ (λ e. omega arith)
-            (said-never operation OPERATION THREAD o₄ (λ e. omega arith)
-            (said-never logical LOGICAL THREAD o₅ (λ e. omega arith) (λ e. omega arith)))));
-        busy =
-            said-later shape SHAPE BUSY o₁ (λ e. omega arith)
-            (said-later thread THREAD BUSY o₂ (λ e. omega arith)
-            (said-own busy BUSY o₃
-            (said-never operation OPERATION BUSY o₄ (λ e. omega arith)
-            (said-never logical LOGICAL BUSY o₅ (λ e. omega arith) (λ e. omega arith)))));
-        operation =
-            said-later shape SHAPE OPERATION o₁ (λ e. omega arith)
-            (said-later thread THREAD OPERATION o₂ (λ e. omega arith)
-            (said-later busy BUSY OPERATION o₃ (λ e. omega arith)
-            (said-own operation OPERATION o₄
-            (said-never logical LOGICAL OPERATION o₅ (λ e. omega arith) (λ e. omega arith)))));
-        logical =
-            said-later shape SHAPE LOGICAL o₁ (λ e. omega arith)
-            (said-later thread THREAD LOGICAL o₂ (λ e. omega arith)
-            (said-later busy BUSY LOGICAL o₃ (λ e. omega arith)
-            (said-later operation OPERATION LOGICAL o₄ (λ e. omega arith)
-            (said-own logical LOGICAL o₅ (λ e. omega arith)))));
-        went =
-            said-later shape SHAPE WENT o₁ (λ e. omega arith)
-            (said-later thread THREAD WENT o₂ (λ e. omega arith)
-            (said-later busy BUSY WENT o₃ (λ e. omega arith)
-            (said-later operation OPERATION WENT o₄ (λ e. omega arith)
-            (said-last logical LOGICAL WENT o₅ (λ e. omega arith) refl))));
-      }
-
-  -- a line's own numbers
-
-  line-never : (t : ℕ) (v : Verdict) (number : ℕ) → BLOCKED < number → number < FAULT → said (told (decode a) t v) ≡ number → ⊥
-  line-never t Blocked number low high e = omega arith
-  line-never t Fault number low high e = omega arith
-  line-never t (Go r f) number low high e = omega arith
-  line-never t (Done answer f) number low high e = omega arith
-
-  line-blocked : (t : ℕ) (v : Verdict) → (said (told (decode a) t v) ≡ BLOCKED) ↔ (v ≡ Blocked)
-  line-blocked t Blocked = (λ e. refl, λ e. refl)
-  line-blocked t Fault = (λ e. absurd (omega arith), λ e. absurd (let z : _≡_ {A = ℕ} 0 1 = cc in omega arith))
-  line-blocked t (Go r f) = (λ e. absurd (omega arith), λ e. absurd (let z : _≡_ {A = ℕ} 0 1 = cc in omega arith))
-  line-blocked t (Done answer f) = (λ e. absurd (omega arith), λ e. absurd (let z : _≡_ {A = ℕ} 0 1 = cc in omega arith))
-
-  line-fault : (t : ℕ) (v : Verdict) → (said (told (decode a) t v) ≡ FAULT) ↔ (v ≡ Fault)
-  line-fault t Blocked = (λ e. absurd (omega arith), λ e. absurd (let z : _≡_ {A = ℕ} 0 1 = cc in omega arith))
-  line-fault t Fault = (λ e. refl, λ e. refl)
-  line-fault t (Go r f) = (λ e. absurd (omega arith), λ e. absurd (let z : _≡_ {A = ℕ} 0 1 = cc in omega arith))
-  line-fault t (Done answer f) = (λ e. absurd (omega arith), λ e. absurd (let z : _≡_ {A = ℕ} 0 1 = cc in omega arith))
-
-  step-refusals : (t : ℕ) → StepRefusals a t
-  step-refusals t =
-      let s = decode a in
-      let v = verdict s t in
-      let o₃ = told s t v in
-      let idle = not (isIdle (s .thread t)) in
-      let o₂ = check idle IDLE o₃ in
-      let thread = ltb t (s .threads) in
-      let o₁ = check thread THREAD o₂ in
-      let shape = wellFormed a in
-      record {
-        shape =
-            said-own shape SHAPE o₁
-            (said-never thread THREAD SHAPE o₂ (λ e. omega arith)
-            (said-never idle IDLE SHAPE o₃ (λ e. omega arith) (line-never t v SHAPE (omega arith) (omega arith))));
-        thread =
-            said-later shape SHAPE THREAD o₁ (λ e. omega arith)
-            (said-own thread THREAD o₂
-            (said-never idle IDLE THREAD o₃ (λ e. omega arith) (line-never t v THREAD (omega arith) (omega arith))));
-        idle =
-            said-later shape SHAPE IDLE o₁ (λ e. omega arith)
-            (said-later thread THREAD IDLE o₂ (λ e. omega arith)
-            (said-own idle IDLE o₃ (line-never t v IDLE (omega arith) (omega arith))));
-        blocked =
-            said-later shape SHAPE BLOCKED o₁ (λ e. omega arith)
-            (said-later thread THREAD BLOCKED o₂ (λ e. omega arith)
-            (said-later idle IDLE BLOCKED o₃ (λ e. omega arith) (line-blocked t v)));
-        fault =
-            said-later shape SHAPE FAULT o₁ (λ e. omega arith)
-            (said-later thread THREAD FAULT o₂ (λ e. omega arith)
-            (said-later idle IDLE FAULT o₃ (λ e. omega arith) (line-fault t v)));
-      }
-
-  pub refusals : Refusals a
-  refusals = record { format = format-refusals; begin = begin-refusals; step = step-refusals }
-
--- ---- what a call leaves
-
--- the number and the value of a call that goes: "the value is 0 except where an operation finishes"
-record Fair (number value : ℕ) : Type 0 where
-  low : number ≤ FINISHED
-  unfinished : (number ≡ FINISHED → ⊥) → value ≡ 0
-
--- what is so of every refusal, and of every effect on the store with its number and value, is so of every call
-module _ (s : Store) (A : Outcome → Type 0) (no-effect : (number : ℕ) → A (refused number))
-    (effect : (number value : ℕ) → Fair number value → (t : ℕ) (r : Thread) (f : Effect) → A (left number value (apply s t r f))) where
-  check-each : (b : Bool) (number : ℕ) (o : Outcome) → A o → A (check b number o)
-  check-each true number o x = x
-  check-each false number o x = no-effect number
-
-  told-each : (t : ℕ) (v : Verdict) → A (told s t v)
-  told-each t Blocked = no-effect BLOCKED
-  told-each t Fault = no-effect FAULT
-  told-each t (Go r f) = effect WENT 0 (record { low = omega arith; unfinished = λ _. refl }) t r f
-  told-each t (Done answer f) = effect FINISHED answer (record { low = omega arith; unfinished = λ e. absurd (e refl) }) t idle f
-
-  calling-each : (e : Entry) → A (calling s e)
-  calling-each (begin t op n c) =
-      check-each (ltb t (s .threads)) THREAD _
-      (check-each (isIdle (s .thread t)) BUSY _
-      (check-each (within WRITE LEVEL op) OPERATION _
-      (check-each (eqb op LEVEL || ltb n (s .numbers)) LOGICAL _
-      (effect WENT 0 (record { low = omega arith; unfinished = λ _. refl }) t (begun op n c) nothing))))
-  calling-each (step t) =
-      check-each (ltb t (s .threads)) THREAD _
-      (check-each (not (isIdle (s .thread t))) IDLE _ (told-each t (verdict s t)))
+pub refusals : (a : List ℕ) → Refusals a
+refusals = refusal-tables
 
 module _ (a : List ℕ) where
   -- a refused call leaves the area, and one that goes is fair

@@ -3,28 +3,28 @@
 -- Where it is met in the middle of two operations, and that it isn't so for the same lock, is computed in Reached.
 -- Assumes nothing.
 use mathlib.Core.Path.{_≡_, refl, sym, _∙_, subst}
-use mathlib.Core.Bool.{Bool, true, false, _&&_, _||_}
+use mathlib.Core.Bool.{true, false, _&&_, _||_}
 use mathlib.Core.List.{List}
-use Prim.Native.Nat.{ℕ, zero, suc, _<_, _≤_}
+use Prim.Native.Nat.{ℕ, zero, suc, _≤_}
 use native.Mathlib.Omega.{arith}
-use lib.Dec.{eqb, ltb, leb}
+use lib.Dec.{ltb}
 use borrow.Author.Tests.{ltb-true, le-leb, eqb-true}
 use Rattle.meaning.specs.declared.Act.the-variants.{TakeH, TakeN}
 use Rattle.meaning.specs.declared.Thread.{Thread}
-use Rattle.meaning.specs.Numbers.{FINISHED, THREAD}
+use Rattle.meaning.specs.Numbers.{FINISHED}
 use Rattle.meaning.specs.Limits.{mostWord, within}
 use Rattle.meaning.specs.Store.{Store}
 use Rattle.meaning.specs.Programs.{actAt}
-use Rattle.meaning.specs.Call.{Reply, step, callStore}
+use Rattle.meaning.specs.Call.{step, callStore}
 use Rattle.meaning.proofs.Words.{either-way, and-left, and-right, or-way, within-true, clash}
 use Rattle.meaning.proofs.Invariant.{takesH, takesN, takesLock}
 use Rattle.meaning.proofs.Keeping.{standing}
 use Rattle.meaning.proofs.Demand1.{CanStep as CanStepStore}
-use Rattle.meaning.proofs.EitherOrder.{sameTake, Swaps, either-order}
-use Rattle.store.specs.Area.{decode, wellFormed}
-use Rattle.store.specs.Calls.{callArea, stepArea, Grown}
+use Rattle.meaning.proofs.EitherOrder.{sameTake, either-order}
+use Rattle.store.specs.Area.{decode}
+use Rattle.store.specs.Calls.{stepArea, Grown}
 use Rattle.demands.specs.Demand1.{CanStep}
-use Rattle.demands.specs.EitherOrder.{nextAct, SameLock, both-H, both-N, EitherOrder}
+use Rattle.demands.specs.EitherOrder.{SameLock, both-H, both-N, EitherOrder}
 use Rattle.demands.proofs.Bridge.{Good, Matches, after-call, decode-injective, good-ranged, grown-good, grown-inv}
 use Rattle.demands.proofs.Demand1.{refusals, number-decoded}
 

@@ -2,15 +2,13 @@
 -- is well formed, and what encoding and decoding keep. Begin and step keep it, of any such store, grown from fresh or made by hand: so
 -- no call turns a well-formed area into a malformed one. A word that an act puts is in its bounds, one clause an act.
 -- Assumes nothing.
-use mathlib.Core.Path.{_≡_, refl, sym, _∙_, subst}
-use mathlib.Core.Bool.{Bool, true, false, not, cond, _&&_, _||_}
-use mathlib.Core.List.{List, [], _∷_, _++_}
-use mathlib.Core.Logic.{_⊎_, inl, inr, _↔_}
-use Prim.Native.Nat.{ℕ, zero, suc, _+_, _*_, _/_, _%_, _<_, _≤_}
+use mathlib.Core.Path.{_≡_, refl}
+use mathlib.Core.Bool.{Bool, true, false, _&&_, _||_}
+use mathlib.Core.Logic.{inl, inr}
+use Prim.Native.Nat.{ℕ, _+_, _<_, _≤_}
 use native.Mathlib.Omega.{arith}
-use lib.Dec.{eqb, ltb, leb}
-use lib.ListN.{getD, length}
-use borrow.Author.Tests.{ltb-true, ltb-false, lt-ltb, le-ltb, leb-true, le-leb, eqb-true, eqb-false}
+use lib.Dec.{eqb, ltb}
+use borrow.Author.Tests.{ltb-true, le-leb, eqb-false}
 use Rattle.meaning.specs.declared.Reg.{Reg}
 use Rattle.meaning.specs.declared.Reg.the-variants.{P, Q}
 use Rattle.meaning.specs.declared.Act.{Act}
@@ -27,21 +25,19 @@ use Rattle.meaning.specs.declared.Found.{Found}
 use Rattle.meaning.specs.declared.Found.the-variants.{Nobody, At}
 use Rattle.meaning.specs.Limits.{mostWord, within, inLimits}
 use Rattle.meaning.specs.Store.{Store, idle, fresh}
-use Rattle.meaning.specs.Holding.{none, free, by, heldBy, naming, named}
+use Rattle.meaning.specs.Holding.{free, heldBy, named}
 use Rattle.meaning.specs.Programs.{WRITE, LEVEL, lastLine, actAt}
 use Rattle.meaning.specs.Choosing.{lowestFree, best, toBlock, leastWorn, fromBlock}
-use Rattle.meaning.specs.Step.{goto, onward, setN, setC, setP, setQ, setH, block, nothing, need, take, next, worn, touches, heads, choosing, perform, verdict, become, put, apply}
+use Rattle.meaning.specs.Step.{block, nothing, worn, touches, heads, choosing, perform, verdict, become, put, apply}
 use Rattle.meaning.specs.Call.{Outcome, refused, left, isIdle, storedN, storedC, begun, told, Entry as Call, begin, step, calling}
 use Rattle.meaning.specs.Schedule.{Words}
 use Rattle.meaning.proofs.Words.{clash, and-left, and-right, within-true, either-way, upd-each, named-below}
-use Rattle.meaning.proofs.Invariant.{Changes, Puts, Stands, onLine}
+use Rattle.meaning.proofs.Invariant.{Changes, Puts, Stands}
 use Rattle.meaning.proofs.Keeping.{everyLine, everywhere}
 use Rattle.meaning.proofs.Lines.{_▸_, from-at}
 use Rattle.meaning.proofs.Blocks.{finds, lacks, Best, best-finds}
-use Rattle.store.specs.Layout.{dAt}
-use Rattle.store.specs.Area.{Bytes, word, bytes, rows, threadRow, blockRow, words, encode, threadFrom, storeOf, decode, wellFormed}
-use Rattle.store.proofs.Sound.{Sizes, limits-sizes, Working, SoundThread, Sound, Fitted, wellFormed-sound}
-use Rattle.store.proofs.Codec.{InRange, encode-decode, decode-encode, length-encode}
+use Rattle.store.specs.Area.{word}
+use Rattle.store.proofs.Sound.{Sizes, limits-sizes, Working, SoundThread}
 
 -- ---- a store in range
 

@@ -5,23 +5,24 @@
 --    the bytes are others.
 -- Assumes nothing.
 use mathlib.Core.Path.{_≡_, refl}
-use mathlib.Core.Bool.{Bool, true, false, _&&_}
+use mathlib.Core.Bool.{Bool, true, _&&_}
 use mathlib.Core.List.{List, [], _∷_, map}
-use Prim.Native.Nat.{ℕ, zero, suc, _<_, _≤_}
+use Prim.Native.Nat.{ℕ, zero, suc, _<_}
 use native.Mathlib.Omega.{arith}
 use lib.Dec.{eqb, leb}
-use lib.ListN.{getD, replicate}
+use lib.ListN.{replicate}
 use borrow.Author.Tests.{leb-true, eqb-true}
 use Rattle.meaning.specs.Numbers.{WENT, FAULT}
 use Rattle.meaning.specs.Limits.{mostWord}
 use Rattle.meaning.specs.Call.{Entry, begin, step}
-use Rattle.meaning.specs.Schedule.{Words, formatted}
+use Rattle.meaning.specs.Schedule.{formatted}
 use Rattle.meaning.proofs.Words.{and-left, and-right}
 use Rattle.store.specs.Layout.{size}
 use Rattle.store.specs.Area.{Bytes, wellFormed}
-use Rattle.store.specs.Calls.{Formatted, format, Grown}
-use Rattle.demands.specs.Reached.{met, needs, Meeting, formed, reached, meet, meetings}
-use Rattle.demands.proofs.Bridge.{AllWords, run-grown}
+use Rattle.store.specs.Calls.{format, Grown}
+use Rattle.demands.specs.Reached.{met, needs, Meeting, formed, reached, meet, meetings, Each}
+use Rattle.demands.specs.Schedule.{AllWords}
+use Rattle.demands.proofs.Bridge.{run-grown}
 
 pub needs-fault : map met needs ≡ map (λ x. record { lacking = FAULT; having = true }) needs
 unfolding needs wellFormed
@@ -54,14 +55,15 @@ words-are (begin t op n c ∷ w) x =
     let x₄ = and-left b₄ (leb c mostWord) x in
     let x₃ = and-left b₃ (leb n mostWord) x₄ in
     let x₂ = and-left b₂ (leb op mostWord) x₃ in (
-      (leb-true t mostWord (and-right (areWords w) _ x₂), leb-true op mostWord (and-right b₂ _ x₃), leb-true n mostWord (and-right b₃ _ x₄), leb-true c mostWord (and-right b₄ _ x)),
+      (
+        leb-true t mostWord (and-right (areWords w) _ x₂),
+        leb-true op mostWord (and-right b₂ _ x₃),
+        leb-true n mostWord (and-right b₃ _ x₄),
+        leb-true c mostWord (and-right b₄ _ x),
+      ),
       words-are w (and-left (areWords w) _ x₂),
     )
 words-are (step t ∷ w) x = (leb-true t mostWord (and-right (areWords w) _ x), words-are w (and-left (areWords w) _ x))
-
-abbrev Each : (Meeting → Type 0) → List Meeting → Type 0
-Each A [] = Unit {0}
-Each A (m ∷ l) = A m × Each A l
 
 startsWell : List Meeting → Bool
 startsWell [] = true

@@ -6,7 +6,9 @@ use mathlib.Core.Logic.{_↔_}
 use Prim.Native.Nat.{ℕ, _<_, _≤_}
 use lib.Dec.{eqb, ltb}
 use lib.ListN.{length}
-use Rattle.meaning.specs.declared.Verdict.the-variants.{Blocked, Fault}
+use Rattle.meaning.specs.declared.Thread.{Thread}
+use Rattle.meaning.specs.declared.Effect.{Effect}
+use Rattle.meaning.specs.declared.Verdict.the-variants.{Blocked, Fault, Go, Done}
 use Rattle.meaning.specs.Numbers.{WENT, FINISHED, BLOCKED, SHAPE, THREAD, BUSY, IDLE, LOGICAL, OPERATION, FAULT, LIMITS}
 use Rattle.meaning.specs.Limits.{within, inLimits}
 use Rattle.meaning.specs.Store.{Store}
@@ -50,19 +52,27 @@ pub record BeginRefusals (a : List ℕ) (t op n c : ℕ) : Type 0 where
       ↔ Past (wellFormed a ∷ ltb t (decode a .threads) ∷ isIdle (decode a .thread t) ∷ within WRITE LEVEL op ∷ [])
       ((eqb op LEVEL || ltb n (decode a .numbers)) ≡ true)
 
--- BLOCKED and FAULT are the line's own
+-- the line's own numbers come of its verdict
 pub record StepRefusals (a : List ℕ) (t : ℕ) : Type 0 where
   pub shape : (stepArea a t .number ≡ SHAPE) ↔ (wellFormed a ≡ false)
   pub thread : (stepArea a t .number ≡ THREAD) ↔ Past (wellFormed a ∷ []) (ltb t (decode a .threads) ≡ false)
   pub idle :
       (stepArea a t .number ≡ IDLE)
-      ↔ Past (wellFormed a ∷ ltb t (decode a .threads) ∷ []) (not (isIdle (decode a .thread t)) ≡ false)
+      ↔ Past (wellFormed a ∷ ltb t (decode a .threads) ∷ []) (isIdle (decode a .thread t) ≡ true)
   pub blocked :
       (stepArea a t .number ≡ BLOCKED)
       ↔ Past (wellFormed a ∷ ltb t (decode a .threads) ∷ not (isIdle (decode a .thread t)) ∷ []) (verdict (decode a) t ≡ Blocked)
   pub fault :
       (stepArea a t .number ≡ FAULT)
       ↔ Past (wellFormed a ∷ ltb t (decode a .threads) ∷ not (isIdle (decode a .thread t)) ∷ []) (verdict (decode a) t ≡ Fault)
+  pub went :
+      (stepArea a t .number ≡ WENT)
+      ↔ Past (wellFormed a ∷ ltb t (decode a .threads) ∷ not (isIdle (decode a .thread t)) ∷ [])
+      ((r : Thread) × (e : Effect) × (verdict (decode a) t ≡ Go r e))
+  pub finished :
+      (stepArea a t .number ≡ FINISHED)
+      ↔ Past (wellFormed a ∷ ltb t (decode a .threads) ∷ not (isIdle (decode a .thread t)) ∷ [])
+      ((answer : ℕ) × (e : Effect) × (verdict (decode a) t ≡ Done answer e))
 
 pub record Refusals (a : List ℕ) : Type 0 where
   pub format : (t n p d : ℕ) → FormatRefusals a t n p d

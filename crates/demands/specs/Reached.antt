@@ -7,7 +7,7 @@ use lib.ListN.{replicate, set}
 use lib.Dec.{eqb, leb}
 use Rattle.meaning.specs.Numbers.{WENT, FINISHED, BLOCKED}
 use Rattle.meaning.specs.Programs.{WRITE, READ, UNMAP, LEVEL}
-use Rattle.meaning.specs.Call.{Reply, Entry, begin, step}
+use Rattle.meaning.specs.Call.{Reply, Entry, begin}
 use Rattle.meaning.specs.Schedule.{run, steps}
 use Rattle.store.specs.Layout.{lockAt, ownerAt, locksAt, blocksAt, size}
 use Rattle.store.specs.Area.{bytes, decode}
@@ -196,3 +196,8 @@ meetings =
       comes = record { zeroth = at READ 1 WENT BLOCKED; other = at WRITE 2 WENT BLOCKED; alike = false };
     }
     ∷ []
+
+-- what holds of each meeting
+abbrev pub Each : (Meeting → Type 0) → List Meeting → Type 0
+Each A [] = Unit {0}
+Each A (m ∷ l) = A m × Each A l

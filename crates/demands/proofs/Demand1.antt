@@ -19,15 +19,15 @@ use borrow.Author.Tests.{ltb-true, leb-true, not-true}
 use Rattle.meaning.specs.Numbers.{FINISHED, BLOCKED, SHAPE, FAULT}
 use Rattle.meaning.specs.Limits.{inLimits}
 use Rattle.meaning.specs.Store.{Store}
-use Rattle.meaning.specs.Call.{Outcome, refused, left, reply, check, Entry, begin, step, calling, callStore}
+use Rattle.meaning.specs.Call.{Outcome, refused, left, reply, Entry, begin, step, calling, callStore}
 use Rattle.meaning.specs.Schedule.{Words}
 use Rattle.meaning.proofs.Words.{either-way, clash}
 use Rattle.meaning.proofs.Demand1.{no-fault, progress}
 use Rattle.store.specs.Layout.{size}
-use Rattle.store.specs.Area.{Bytes, encode, decode, wellFormed}
+use Rattle.store.specs.Area.{Bytes, decode, wellFormed}
 use Rattle.store.specs.Calls.{formatArea, callArea, stepArea, Grown}
 use Rattle.demands.specs.Demand1.{Refusals, Open, CanStep, SameSizes}
-use Rattle.demands.proofs.Refusals.{said, refusal-tables, calling-each}
+use Rattle.demands.proofs.Refusals.{said, refusal-tables, calling-each, call-refusing}
 use Rattle.demands.proofs.Bridge.{after-call, grown-good, grown-inv}
 
 -- ---- what a call answers and leaves, of every area
@@ -36,25 +36,12 @@ pub refusals : (a : List ℕ) → Refusals a
 refusals = refusal-tables
 
 module _ (a : List ℕ) where
-  -- a refused call leaves the area, and one that goes is fair
-  Refusing : Outcome → Type 0
-  Refusing o = (BLOCKED ≤ said a o → reply encode a o .after ≡ a) × ((said a o ≡ FINISHED → ⊥) → reply encode a o .value ≡ 0)
-
-  call-refusing : (e : Entry) → Refusing (check (wellFormed a) SHAPE (calling (decode a) e))
-  unfolding Refusing
-  call-refusing e =
-      let x =
-      calling-each (decode a) Refusing (λ number. (λ l. refl, λ l. refl))
-      (λ number value fair t r f. (λ l. let z = fair .low in absurd (omega arith), fair .unfinished)) e in
-      either-way (wellFormed a) (λ b. rw b x) (λ b. rw b (λ l. refl, λ l. refl))
-
   -- format and call: BLOCKED and more leave every byte
   pub refusal-keeps :
       ((e : Entry) → BLOCKED ≤ callArea a e .number → callArea a e .after ≡ a)
       × ((t n p d : ℕ) → BLOCKED ≤ formatArea a t n p d .number → formatArea a t n p d .after ≡ a)
-  unfolding Refusing
   refusal-keeps = (
-    λ e. call-refusing e .0,
+    λ e. call-refusing a e .kept,
     λ t n p d.
         either-way (inLimits t n p d)
         (λ l. rw l (either-way (eqb (length a) (size t n p)) (λ f. rw f (λ x. absurd (omega arith))) (λ f. rw f (λ x. refl))))
@@ -62,8 +49,7 @@ module _ (a : List ℕ) where
   )
 
   pub unfinished-value : (e : Entry) → (callArea a e .number ≡ FINISHED → ⊥) → callArea a e .value ≡ 0
-  unfolding Refusing
-  unfinished-value e = call-refusing e .1
+  unfinished-value e = call-refusing a e .unfinished
 
 -- ---- what a call keeps, of any area of bytes
 

@@ -54,7 +54,8 @@ other-locks : (r q : Thread) → (SameLock r q → ⊥) → sameTake r q ≡ fal
 other-locks r q apart =
     either-way (sameTake r q)
     (λ x. absurd (apart (or-way (takesH r && takesH q) (takesN q && takesLock r (q .n)) x
-    (λ y. both-H (takesH-act (r .op) (r .line) (and-left (takesH r) _ y)) (takesH-act (q .op) (q .line) (and-right (takesH r) (takesH q) y)))
+    (λ y. both-H (takesH-act (r .op) (r .line) (and-left (takesH r) _ y))
+    (takesH-act (q .op) (q .line) (and-right (takesH r) (takesH q) y)))
     (λ y.
     let l = and-right (takesN q) (takesLock r (q .n)) y in
     both-N (takesN-act (r .op) (r .line) (and-left (takesN r) _ l)) (takesN-act (q .op) (q .line) (and-left (takesN q) _ y))

@@ -104,7 +104,8 @@ put-cell size bound Keep f x all = all
 put-cell size bound (Put i w) f x all =
     upd-each (Cell size bound) f i w (record { low = λ _. x .1; past = λ h. absurd (omega arith) }) (λ k _. all k)
 
-pub apply-ranged : (s : Store) → Ranged s → (t : ℕ) → t < s .threads → (r : Thread) (e : Effect) → Keeps s r e → Ranged (apply s t r e)
+pub apply-ranged : (s : Store) → Ranged s → (t : ℕ) → t < s .threads → (r : Thread) (e : Effect) → Keeps s r e →
+    Ranged (apply s t r e)
 apply-ranged s R t below r e K =
     record {
       sizes = R .sizes;
@@ -191,20 +192,31 @@ module _ (s : Store) (R : Ranged s) (t : ℕ) (below : t < s .threads) (r : Thre
   following : ltb (r .line) (lastLine (r .op)) ≡ true → Line (r .line + 1)
   following x = let go = ltb-true (r .line) (lastLine (r .op)) x in omega arith
 
-  mapped-below : free (s .map (r .n)) ≡ false → named (s .map (r .n)) < s .blocks
-  mapped-below y = named-below (s .map (r .n)) (s .blocks) y (R .map (r .n) .low (W .n-low))
-
-  from-below : (to : ℕ) (from : Found) → to < s .blocks → Low (s .blocks) from → fromBlock (s .wear) (s .distance) to from < s .blocks
-  from-below to Nobody b x = b
-  from-below to (At f) b x = either-way (ltb (s .wear to) (s .wear f + s .distance)) (λ y. rw y b) (λ y. rw y x)
-
-  choosing-safe : Line (r .line + 1) → (to from : Found) → Low (s .blocks) to → Low (s .blocks) from → Safe s (choosing s r to from)
-  choosing-safe l Nobody from x y = tt
-  choosing-safe l (At to) from x y = let z = from-below to from x y in search (arith, inr)
-
   block-below : (b : Reg) → block b r < s .blocks
   block-below P = W .p-low
   block-below Q = W .q-low
+
+  p-header : s .header (r .p) ≤ s .numbers
+  p-header = R .header (r .p) .low (W .p-low)
+
+  p-content : s .content (r .p) ≤ mostWord
+  p-content = R .content (r .p) .low (W .p-low)
+
+  p-worn : worn (s .wear (r .p)) ≤ mostWord
+  p-worn = worn-word (s .wear (r .p)) (R .wear (r .p) .low (W .p-low))
+
+  mapped-below : free (s .map (r .n)) ≡ false → named (s .map (r .n)) < s .blocks
+  mapped-below y = named-below (s .map (r .n)) (s .blocks) y (R .map (r .n) .low (W .n-low))
+
+  from-below : (to : ℕ) (from : Found) → to < s .blocks → Low (s .blocks) from →
+      fromBlock (s .wear) (s .distance) to from < s .blocks
+  from-below to Nobody b x = b
+  from-below to (At f) b x = either-way (ltb (s .wear to) (s .wear f + s .distance)) (λ y. rw y b) (λ y. rw y x)
+
+  choosing-safe : Line (r .line + 1) → (to from : Found) → Low (s .blocks) to → Low (s .blocks) from →
+      Safe s (choosing s r to from)
+  choosing-safe l Nobody from x y = tt
+  choosing-safe l (At to) from x y = let z = from-below to from x y in search (arith, inr)
 
   safe : (a : Act) → stays a (r .op) (r .line) ≡ true → Safe s (perform a s t r)
   safe Nothing x = tt
@@ -216,8 +228,12 @@ module _ (s : Store) (R : Ranged s) (t : ℕ) (below : t < s .threads) (r : Thre
   safe (FinishN a) x = either-way (heldBy t (s .locks (r .n))) (λ y. rw y (search (arith, inl, refl))) (λ y. rw y tt)
   safe OwnHeaders x = let l = following x in either-way (free (s .owner)) (λ y. rw y (search (arith, inr))) (λ y. rw y tt)
   safe LetGoHeaders x = let l = following x in either-way (heldBy t (s .owner)) (λ y. rw y (search (arith, inr))) (λ y. rw y tt)
-  safe (Own b) x = let m = block-below b in let l = following x in either-way (free (s .own (block b r))) (λ y. rw y (search (arith, inr))) (λ y. rw y tt)
-  safe (LetGo b) x = let m = block-below b in let l = following x in either-way (heldBy t (s .own (block b r))) (λ y. rw y (search (arith, inr))) (λ y. rw y tt)
+  safe (Own b) x =
+      let l = following x in
+      either-way (free (s .own (block b r))) (λ y. rw y (search (arith, inr, block-below b))) (λ y. rw y tt)
+  safe (LetGo b) x =
+      let l = following x in
+      either-way (heldBy t (s .own (block b r))) (λ y. rw y (search (arith, inr, block-below b))) (λ y. rw y tt)
   safe (GoIfMapped l) x =
       let z = lines l x in
       either-way (free (s .map (r .n))) (λ y. rw y (search (arith, inr)))
@@ -247,14 +263,22 @@ module _ (s : Store) (R : Ranged s) (t : ℕ) (below : t < s .threads) (r : Thre
       (choosing-safe (following x) (toBlock (s .header) (s .wear) (s .blocks))
       (leastWorn (s .header) (s .wear) (s .blocks)) (best-low _ _ (s .blocks)) (best-low _ _ (s .blocks))))
       (λ y. rw y tt)
-  safe ReadHeader x = let h = R .header (r .p) .low (W .p-low) in let l = following x in either-way (heldBy t (s .owner)) (λ y. rw y (search (arith, inr))) (λ y. rw y tt)
+  safe ReadHeader x =
+      let l = following x in
+      either-way (heldBy t (s .owner)) (λ y. rw y (search (arith, inr, p-header))) (λ y. rw y tt)
   safe WriteHeaderN x = let l = following x in either-way (heads s t (r .p)) (λ y. rw y (search (arith, inr))) (λ y. rw y tt)
   safe WriteHeaderH x = let l = following x in either-way (heads s t (r .q)) (λ y. rw y (search (arith, inr))) (λ y. rw y tt)
-  safe FreeHeader x = let w = worn-word (s .wear (r .p)) (R .wear (r .p) .low (W .p-low)) in let l = following x in either-way (heads s t (r .p)) (λ y. rw y (search (arith, inr))) (λ y. rw y tt)
+  safe FreeHeader x =
+      let l = following x in
+      either-way (heads s t (r .p)) (λ y. rw y (search (arith, inr, p-worn))) (λ y. rw y tt)
   safe EmptyContent x = let l = following x in either-way (touches s t (r .p)) (λ y. rw y (search (arith, inr))) (λ y. rw y tt)
-  safe ReadContent x = let c = R .content (r .p) .low (W .p-low) in let l = following x in either-way (touches s t (r .p)) (λ y. rw y (search (arith, inr))) (λ y. rw y tt)
-  safe (WriteContent b) x = let m = block-below b in let l = following x in either-way (touches s t (block b r)) (λ y. rw y (search (arith, inr))) (λ y. rw y tt)
-  safe (MapTo b) x = let l = following x in let m = block-below b in search (arith, inr)
+  safe ReadContent x =
+      let l = following x in
+      either-way (touches s t (r .p)) (λ y. rw y (search (arith, inr, p-content))) (λ y. rw y tt)
+  safe (WriteContent b) x =
+      let l = following x in
+      either-way (touches s t (block b r)) (λ y. rw y (search (arith, inr, block-below b))) (λ y. rw y tt)
+  safe (MapTo b) x = let l = following x in search (arith, inr, block-below b)
   safe Unmap x = let l = following x in search (arith, inr)
 
 -- ---- a call keeps it
@@ -287,7 +311,10 @@ module _ (s : Store) (R : Ranged s) (t : ℕ) (below : t < s .threads) where
       let r = s .thread t in
       let w = open-working busy in
       let some : r .op ≡ 0 → ⊥ = eqb-false (r .op) 0 busy in
-      inr (rw (le-leb WRITE (r .op) (omega arith), le-leb (r .op) LEVEL (w .operation), le-leb 1 (r .line) (w .line .0)) (le-leb (r .line) (lastLine (r .op)) (w .line .1)))
+      let op : within WRITE LEVEL (r .op) ≡ true = rw (le-leb WRITE (r .op) (omega arith)) (le-leb (r .op) LEVEL (w .operation)) in
+      let line : within 1 (lastLine (r .op)) (r .line) ≡ true =
+      rw (le-leb 1 (r .line) (w .line .0)) (le-leb (r .line) (lastLine (r .op)) (w .line .1)) in
+      inr (rw op line)
 
   told-ranged : (v : Verdict) → Safe s v → Leaves (told s t v)
   told-ranged Blocked f = tt
@@ -312,7 +339,14 @@ module _ (s : Store) (R : Ranged s) (t : ℕ) (below : t < s .threads) where
       either-way (eqb op LEVEL) (λ x. rw x (omega arith)) (λ x. rw x (ltb-true n (s .numbers) (rw x at number))) in
       let c-word : storedC op c ≤ mostWord = either-way (eqb op WRITE) (λ x. rw x low) (λ x. rw x (omega arith)) in
       let w : Working (s .numbers) (s .blocks) (begun op n c) =
-      record { operation = o .1; line = (omega arith, l); n-low = n-below; p-low = omega arith; q-low = omega arith; h-low = omega arith } in
+      record {
+        operation = o .1;
+        line = (omega arith, l);
+        n-low = n-below;
+        p-low = omega arith;
+        q-low = omega arith;
+        h-low = omega arith;
+      } in
       apply-ranged s R t below (begun op n c) nothing (search (arith, inr))
 
 pub calling-ranged : (s : Store) → Ranged s → (e : Call) → Words e → Leaves (calling s e)

@@ -74,10 +74,12 @@ unfolding startsWell
 each-grown [] x = tt
 each-grown (m ∷ l) x =
     let went = eqb (formed (m .t) (m .n) (m .p) (m .d) .number) WENT in
-    let y = and-left (startsWell l && went) (areWords (m .before)) x in (
+    let y = and-left (startsWell l && went) (areWords (m .before)) x in
+    let bytes = replicate-bytes (size (m .t) (m .n) (m .p)) 255 (omega arith) in
+    let starts = eqb-true (formed (m .t) (m .n) (m .p) (m .d) .number) WENT (and-right (startsWell l) went y) in (
       run-grown (formed (m .t) (m .n) (m .p) (m .d) .after)
-          (formatted (format (replicate (size (m .t) (m .n) (m .p)) 255) (replicate-bytes (size (m .t) (m .n) (m .p)) 255 (omega arith)) (m .t) (m .n) (m .p) (m .d)
-          (eqb-true _ WENT (and-right (startsWell l) went y)))) (m .before) (words-are (m .before) (and-right (startsWell l && went) _ x)),
+          (formatted (format (replicate (size (m .t) (m .n) (m .p)) 255) bytes (m .t) (m .n) (m .p) (m .d) starts)) (m .before)
+          (words-are (m .before) (and-right (startsWell l && went) _ x)),
       each-grown l (and-left (startsWell l) went y),
     )
 

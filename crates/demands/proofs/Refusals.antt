@@ -18,9 +18,10 @@ use Rattle.meaning.specs.Limits.{within, inLimits}
 use Rattle.meaning.specs.Store.{Store, idle, fresh}
 use Rattle.meaning.specs.Programs.{WRITE, LEVEL}
 use Rattle.meaning.specs.Step.{nothing, verdict, apply}
-use Rattle.meaning.specs.Call.{Outcome, refused, left, reply, check, isIdle, begun, told, Entry, begin, step, calling}
-use Rattle.meaning.proofs.Words.{clash}
+use Rattle.meaning.specs.Call.{Reply, Outcome, refused, left, reply, check, isIdle, begun, told, Entry, begin, step, calling}
+use Rattle.meaning.proofs.Words.{either-way, clash}
 use Rattle.store.specs.Layout.{size}
+use Rattle.store.specs.Calls.{callArea}
 use Rattle.store.specs.Area.{encode, decode, wellFormed}
 use Rattle.demands.specs.Demand1.{FormatRefusals, BeginRefusals, StepRefusals, Refusals}
 
@@ -229,3 +230,18 @@ module _ (s : Store) (A : Outcome → Type 0) (no-effect : (number : ℕ) → A 
   calling-each (step t) =
       check-each (ltb t (s .threads)) THREAD _
       (check-each (not (isIdle (s .thread t))) IDLE _ (told-each t (verdict s t)))
+
+-- ---- what a refusal leaves
+
+-- a reply on an area that leaves it, or goes with 0 unless it finishes
+pub record Modest (a : List ℕ) (x : Reply (List ℕ)) : Type 0 where
+  pub kept : BLOCKED ≤ x .number → x .after ≡ a
+  pub unfinished : (x .number ≡ FINISHED → ⊥) → x .value ≡ 0
+
+pub call-refusing : (a : List ℕ) (e : Entry) → Modest a (callArea a e)
+call-refusing a e =
+    either-way (wellFormed a)
+    (λ b. rw b
+    (calling-each (decode a) (λ o. Modest a (reply encode a o)) (λ number. record { kept = λ _. refl; unfinished = λ _. refl })
+    (λ number value fair t r f. record { kept = λ l. let z = fair .low in absurd (omega arith); unfinished = fair .unfinished }) e))
+    (λ b. rw b (record { kept = λ _. refl; unfinished = λ _. refl }))

@@ -65,36 +65,36 @@ decode-ranged a h S =
 -- ---- the area of a store in range is well formed, of bytes, and holds the store
 
 -- every element of a list is a word
-abbrev Low : List ℕ → Type 0
-Low [] = Unit {0}
-Low (v ∷ l) = (v ≤ mostWord) × Low l
+abbrev OfWords : List ℕ → Type 0
+OfWords [] = Unit {0}
+OfWords (v ∷ l) = (v ≤ mostWord) × OfWords l
 
-low-at : (l : List ℕ) → Low l → (k : ℕ) → getD l k 0 < 4294967296
+low-at : (l : List ℕ) → OfWords l → (k : ℕ) → getD l k 0 < 4294967296
 low-at [] all k = omega arith
 low-at (v ∷ l) all zero = omega arith
 low-at (v ∷ l) all (suc k) = low-at l (all .1) k
 
-low-append : (l m : List ℕ) → Low l → Low m → Low (l ++ m)
+low-append : (l m : List ℕ) → OfWords l → OfWords m → OfWords (l ++ m)
 low-append [] m x y = y
 low-append (v ∷ l) m x y = (x .0, low-append l m (x .1) y)
 
-low-rows : (count k : ℕ) (row : ℕ → List ℕ) → ((j : ℕ) → j < k + count → Low (row j)) → Low (rows k count row)
+low-rows : (count k : ℕ) (row : ℕ → List ℕ) → ((j : ℕ) → j < k + count → OfWords (row j)) → OfWords (rows k count row)
 low-rows zero k row all = tt
 low-rows (suc count) k row all =
     low-append (row k) (rows (suc k) count row) (all k (omega arith)) (low-rows count (suc k) row (λ j h. all j (omega arith)))
 
 module _ (s : Store) (R : Ranged s) where
-  thread-low : (t : ℕ) → t < s .threads → Low (threadRow (s .thread t))
+  thread-low : (t : ℕ) → t < s .threads → OfWords (threadRow (s .thread t))
   thread-low t h = go (s .thread t) (R .thread t .c) (R .thread t .sound h)
     where
-      go : (r : Thread) → r .c ≤ mostWord → SoundThread (s .numbers) (s .blocks) r → Low (threadRow r)
-      go r c (inl e) = subst (λ (x : Thread). Low (threadRow x)) (sym e) (omega arith)
+      go : (r : Thread) → r .c ≤ mostWord → SoundThread (s .numbers) (s .blocks) r → OfWords (threadRow r)
+      go r c (inl e) = subst (λ (x : Thread). OfWords (threadRow x)) (sym e) (omega arith)
       go r c (inr w) =
           let z = R .sizes in
           let l = few-lines (r .op) (w .operation) in
           omega arith
 
-  block-low : (m : ℕ) → m < s .blocks → Low (blockRow s m)
+  block-low : (m : ℕ) → m < s .blocks → OfWords (blockRow s m)
   block-low m h =
       let z = R .sizes in
       let a = R .header m .low h in
@@ -103,7 +103,7 @@ module _ (s : Store) (R : Ranged s) where
       let d = R .own m .low h in
       omega arith
 
-  words-low : Low (words s)
+  words-low : OfWords (words s)
   words-low =
       let z = R .sizes in
       let l = R .lock in

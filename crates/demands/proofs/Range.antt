@@ -83,7 +83,7 @@ ranged-fresh t n p d l =
 
 -- the next record of an open thread, and what the effect puts, are in their bounds
 pub record Keeps (s : Store) (r : Thread) (e : Effect) : Type 0 where
-  pub record′ : SoundThread (s .numbers) (s .blocks) r
+  pub becomes : SoundThread (s .numbers) (s .blocks) r
   pub c : r .c ≤ mostWord
   pub lock : Changes (e .lock) (λ w. w ≤ s .threads)
   pub owner : Changes (e .owner) (λ w. w ≤ s .threads)
@@ -113,7 +113,7 @@ apply-ranged s R t below r e K =
       owner = become-low (e .owner) (s .owner) (s .threads) (K .owner) (R .owner);
       thread =
           upd-each (Seat (s .threads) (s .numbers) (s .blocks)) (s .thread) t r
-          (record { sound = λ _. K .record′; c = K .c; past = λ h. absurd (omega arith) }) (λ v _. R .thread v);
+          (record { sound = λ _. K .becomes; c = K .c; past = λ h. absurd (omega arith) }) (λ v _. R .thread v);
       map = put-cell (s .numbers) (s .blocks) (e .map) (s .map) (K .map) (R .map);
       locks = put-cell (s .numbers) (s .threads) (e .locks) (s .locks) (K .locks) (R .locks);
       header = put-cell (s .blocks) (s .numbers) (e .header) (s .header) (K .header) (R .header);
@@ -164,14 +164,14 @@ Safe s (Go r e) = Keeps s r e
 Safe s (Done answer e) = Keeps s idle e
 
 -- a block that a search finds is one of those that it goes over
-abbrev Low : ℕ → Found → Type 0
-Low k Nobody = Unit {0}
-Low k (At m) = m < k
+abbrev Among : ℕ → Found → Type 0
+Among k Nobody = Unit {0}
+Among k (At m) = m < k
 
-best-low : (eligible : ℕ → Bool) (beats : ℕ → ℕ → Bool) (k : ℕ) → Low k (best eligible beats k)
+best-low : (eligible : ℕ → Bool) (beats : ℕ → ℕ → Bool) (k : ℕ) → Among k (best eligible beats k)
 best-low eligible beats k = go (best-finds eligible beats k)
   where
-    go : Best eligible beats k → Low k (best eligible beats k)
+    go : Best eligible beats k → Among k (best eligible beats k)
     go (finds m b _ e) = rw e b
     go (lacks _ e) = rw e tt
 
@@ -208,12 +208,12 @@ module _ (s : Store) (R : Ranged s) (t : ℕ) (below : t < s .threads) (r : Thre
   mapped-below : free (s .map (r .n)) ≡ false → named (s .map (r .n)) < s .blocks
   mapped-below y = named-below (s .map (r .n)) (s .blocks) y (R .map (r .n) .low (W .n-low))
 
-  from-below : (to : ℕ) (from : Found) → to < s .blocks → Low (s .blocks) from →
+  from-below : (to : ℕ) (from : Found) → to < s .blocks → Among (s .blocks) from →
       fromBlock (s .wear) (s .distance) to from < s .blocks
   from-below to Nobody b x = b
   from-below to (At f) b x = either-way (ltb (s .wear to) (s .wear f + s .distance)) (λ y. rw y b) (λ y. rw y x)
 
-  choosing-safe : Line (r .line + 1) → (to from : Found) → Low (s .blocks) to → Low (s .blocks) from →
+  choosing-safe : Line (r .line + 1) → (to from : Found) → Among (s .blocks) to → Among (s .blocks) from →
       Safe s (choosing s r to from)
   choosing-safe l Nobody from x y = tt
   choosing-safe l (At to) from x y = let z = from-below to from x y in search (arith, inr)

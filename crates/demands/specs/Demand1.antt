@@ -22,6 +22,20 @@ use Rattle.store.specs.Calls.{formatArea, beginArea, stepArea}
 -- ---- the tables of refusals: 01, "Order: format LIMITS, SHAPE; begin SHAPE, THREAD, BUSY, OPERATION, LOGICAL; step SHAPE, THREAD,
 -- IDLE, then the line's own."
 
+-- thread t is below T; it has no open work
+abbrev pub known : List ℕ → ℕ → Bool
+known a t = ltb t (decode a .threads)
+
+abbrev pub rests : List ℕ → ℕ → Bool
+rests a t = isIdle (decode a .thread t)
+
+-- the operation is one of 1 to 4; the number is below N, for operations 1 to 3
+abbrev pub operable : ℕ → Bool
+operable op = within WRITE LEVEL op
+
+abbrev pub numbered : List ℕ → ℕ → ℕ → Bool
+numbered a op n = eqb op LEVEL || ltb n (decode a .numbers)
+
 -- the tests hold, and so does what follows
 abbrev pub Past : List Bool → Type 0 → Type 0
 Past [] then = then
@@ -36,43 +50,35 @@ pub record FormatRefusals (a : List ℕ) (t n p d : ℕ) : Type 0 where
 
 pub record BeginRefusals (a : List ℕ) (t op n c : ℕ) : Type 0 where
   pub shape : (beginArea a t op n c .number ≡ SHAPE) ↔ (wellFormed a ≡ false)
-  pub thread : (beginArea a t op n c .number ≡ THREAD) ↔ Past (wellFormed a ∷ []) (ltb t (decode a .threads) ≡ false)
-  pub busy :
-      (beginArea a t op n c .number ≡ BUSY)
-      ↔ Past (wellFormed a ∷ ltb t (decode a .threads) ∷ []) (isIdle (decode a .thread t) ≡ false)
+  pub thread : (beginArea a t op n c .number ≡ THREAD) ↔ Past (wellFormed a ∷ []) (known a t ≡ false)
+  pub busy : (beginArea a t op n c .number ≡ BUSY) ↔ Past (wellFormed a ∷ known a t ∷ []) (rests a t ≡ false)
   pub operation :
       (beginArea a t op n c .number ≡ OPERATION)
-      ↔ Past (wellFormed a ∷ ltb t (decode a .threads) ∷ isIdle (decode a .thread t) ∷ []) (within WRITE LEVEL op ≡ false)
+      ↔ Past (wellFormed a ∷ known a t ∷ rests a t ∷ []) (operable op ≡ false)
   pub logical :
       (beginArea a t op n c .number ≡ LOGICAL)
-      ↔ Past (wellFormed a ∷ ltb t (decode a .threads) ∷ isIdle (decode a .thread t) ∷ within WRITE LEVEL op ∷ [])
-      ((eqb op LEVEL || ltb n (decode a .numbers)) ≡ false)
+      ↔ Past (wellFormed a ∷ known a t ∷ rests a t ∷ operable op ∷ []) (numbered a op n ≡ false)
   pub went :
       (beginArea a t op n c .number ≡ WENT)
-      ↔ Past (wellFormed a ∷ ltb t (decode a .threads) ∷ isIdle (decode a .thread t) ∷ within WRITE LEVEL op ∷ [])
-      ((eqb op LEVEL || ltb n (decode a .numbers)) ≡ true)
+      ↔ Past (wellFormed a ∷ known a t ∷ rests a t ∷ operable op ∷ []) (numbered a op n ≡ true)
 
 -- the line's own numbers come of its verdict
 pub record StepRefusals (a : List ℕ) (t : ℕ) : Type 0 where
   pub shape : (stepArea a t .number ≡ SHAPE) ↔ (wellFormed a ≡ false)
-  pub thread : (stepArea a t .number ≡ THREAD) ↔ Past (wellFormed a ∷ []) (ltb t (decode a .threads) ≡ false)
-  pub idle :
-      (stepArea a t .number ≡ IDLE)
-      ↔ Past (wellFormed a ∷ ltb t (decode a .threads) ∷ []) (isIdle (decode a .thread t) ≡ true)
+  pub thread : (stepArea a t .number ≡ THREAD) ↔ Past (wellFormed a ∷ []) (known a t ≡ false)
+  pub idle : (stepArea a t .number ≡ IDLE) ↔ Past (wellFormed a ∷ known a t ∷ []) (rests a t ≡ true)
   pub blocked :
       (stepArea a t .number ≡ BLOCKED)
-      ↔ Past (wellFormed a ∷ ltb t (decode a .threads) ∷ not (isIdle (decode a .thread t)) ∷ []) (verdict (decode a) t ≡ Blocked)
+      ↔ Past (wellFormed a ∷ known a t ∷ not (rests a t) ∷ []) (verdict (decode a) t ≡ Blocked)
   pub fault :
       (stepArea a t .number ≡ FAULT)
-      ↔ Past (wellFormed a ∷ ltb t (decode a .threads) ∷ not (isIdle (decode a .thread t)) ∷ []) (verdict (decode a) t ≡ Fault)
+      ↔ Past (wellFormed a ∷ known a t ∷ not (rests a t) ∷ []) (verdict (decode a) t ≡ Fault)
   pub went :
       (stepArea a t .number ≡ WENT)
-      ↔ Past (wellFormed a ∷ ltb t (decode a .threads) ∷ not (isIdle (decode a .thread t)) ∷ [])
-      ((r : Thread) × (e : Effect) × (verdict (decode a) t ≡ Go r e))
+      ↔ Past (wellFormed a ∷ known a t ∷ not (rests a t) ∷ []) ((r : Thread) × (e : Effect) × (verdict (decode a) t ≡ Go r e))
   pub finished :
       (stepArea a t .number ≡ FINISHED)
-      ↔ Past (wellFormed a ∷ ltb t (decode a .threads) ∷ not (isIdle (decode a .thread t)) ∷ [])
-      ((answer : ℕ) × (e : Effect) × (verdict (decode a) t ≡ Done answer e))
+      ↔ Past (wellFormed a ∷ known a t ∷ not (rests a t) ∷ []) ((answer : ℕ) × (e : Effect) × (verdict (decode a) t ≡ Done answer e))
 
 pub record Refusals (a : List ℕ) : Type 0 where
   pub format : (t n p d : ℕ) → FormatRefusals a t n p d
@@ -84,7 +90,7 @@ pub record Refusals (a : List ℕ) : Type 0 where
 -- thread t has open work
 pub record Open (a : List ℕ) (t : ℕ) : Type 0 where
   pub below : t < decode a .threads
-  pub busy : isIdle (decode a .thread t) ≡ false
+  pub busy : rests a t ≡ false
 
 -- "A thread can step when its step would give WENT or FINISHED."
 abbrev pub CanStep : List ℕ → ℕ → Type 0

@@ -1,0 +1,104 @@
+-- DEMAND 1, over areas of bytes. Assumes nothing.
+--  * refusals: each refusal number comes back exactly where the table of 01, "Numbers given back", says; for every area and argument.
+--  * refusal-keeps: a number of 2 or more, BLOCKED included, leaves the area as it was; for every area and argument.
+--  * unfinished-value: the value is 0 except where an operation finishes; for every area and argument.
+--  * formed-kept: a call never turns a well-formed area into a malformed one, grown from fresh or made by hand.
+--  * sizes-kept, grown-sizes: a call never changes T, N, P or D.
+--  * grown-well-formed, grown-no-shape: an area grown from fresh is well formed, so no call on it answers SHAPE.
+--  * grown-no-fault: no step of an area grown from fresh answers FAULT.
+--  * grown-progress: where some thread of an area grown from fresh has open work, some open thread's step answers WENT or FINISHED.
+-- What FAULT, BLOCKED and open threads look like is computed in Reached.
+use mathlib.Core.Path.{_≡_, refl, sym, subst}
+use mathlib.Core.Bool.{true}
+use mathlib.Core.List.{List}
+use Prim.Native.Nat.{ℕ, _≤_}
+use native.Mathlib.Omega.{arith}
+use lib.Dec.{eqb}
+use lib.ListN.{length}
+use borrow.Author.Tests.{ltb-true, leb-true, not-true}
+use Rattle.meaning.specs.Numbers.{FINISHED, BLOCKED, SHAPE, FAULT}
+use Rattle.meaning.specs.Limits.{inLimits}
+use Rattle.meaning.specs.Store.{Store}
+use Rattle.meaning.specs.Call.{Outcome, refused, left, reply, Entry, begin, step, calling, callStore}
+use Rattle.meaning.specs.Schedule.{Words}
+use Rattle.meaning.proofs.Words.{either-way, clash}
+use Rattle.meaning.proofs.Demand1.{no-fault, progress}
+use Rattle.store.specs.Layout.{size}
+use Rattle.store.specs.Area.{Bytes, decode, wellFormed}
+use Rattle.store.specs.Calls.{formatArea, callArea, stepArea, Grown}
+use Rattle.demands.specs.Demand1.{Refusals, Open, CanStep, SameSizes}
+use Rattle.demands.proofs.Refusals.{said, refusal-tables, calling-each, call-refusing}
+use Rattle.demands.proofs.Bridge.{after-call, grown-good, grown-inv}
+
+-- ---- what a call answers and leaves, of every area
+
+pub refusals : (a : List ℕ) → Refusals a
+refusals = refusal-tables
+
+module _ (a : List ℕ) where
+  -- format and call: BLOCKED and more leave every byte
+  pub refusal-keeps :
+      ((e : Entry) → BLOCKED ≤ callArea a e .number → callArea a e .after ≡ a)
+      × ((t n p d : ℕ) → BLOCKED ≤ formatArea a t n p d .number → formatArea a t n p d .after ≡ a)
+  refusal-keeps = (
+    λ e. call-refusing a e .kept,
+    λ t n p d.
+        either-way (inLimits t n p d)
+        (λ l. rw l (either-way (eqb (length a) (size t n p)) (λ f. rw f (λ x. absurd (omega arith))) (λ f. rw f (λ x. refl))))
+        (λ l. rw l (λ x. refl)),
+  )
+
+  pub unfinished-value : (e : Entry) → (callArea a e .number ≡ FINISHED → ⊥) → callArea a e .value ≡ 0
+  unfinished-value e = call-refusing a e .unfinished
+
+-- ---- what a call keeps, of any area of bytes
+
+pub formed-kept : (a : List ℕ) → Bytes a → wellFormed a ≡ true → (e : Entry) → Words e →
+    (wellFormed (callArea a e .after) ≡ true) × Bytes (callArea a e .after)
+formed-kept a h f e w =
+    let g = after-call a (record { bytes = h; formed = f }) e w .good in
+    (g .formed, g .bytes)
+
+same-sizes : (s : Store) → SameSizes s s
+same-sizes s = record { threads = refl; numbers = refl; blocks = refl; distance = refl }
+
+pub sizes-kept : (a : List ℕ) → Bytes a → (e : Entry) → Words e → SameSizes (decode (callArea a e .after)) (decode a)
+sizes-kept a h e w =
+    let s = decode a in
+    either-way (wellFormed a)
+    (λ f. subst (λ (s′ : Store). SameSizes s′ s) (sym (after-call a (record { bytes = h; formed = f }) e w .decoded))
+    (calling-each s (λ o. SameSizes (reply (λ s′. s′) s o .after) s) (λ _. same-sizes s)
+    (λ _ _ _ t r f. record { threads = refl; numbers = refl; blocks = refl; distance = refl }) e))
+    (λ f. rw f (same-sizes s))
+
+-- ---- areas grown from fresh
+
+pub grown-well-formed : (a : List ℕ) → Grown a → wellFormed a ≡ true
+grown-well-formed a g = grown-good a g .formed
+
+pub grown-sizes : (a : List ℕ) → Grown a → (e : Entry) → Words e → SameSizes (decode (callArea a e .after)) (decode a)
+grown-sizes a g = sizes-kept a (grown-good a g .bytes)
+
+pub grown-no-shape : (a : List ℕ) → Grown a → (e : Entry) → callArea a e .number ≡ SHAPE → ⊥
+grown-no-shape a g (begin t op n c) x = clash (grown-well-formed a g) (refusals a .begin t op n c .shape .0 x)
+grown-no-shape a g (step t) x = clash (grown-well-formed a g) (refusals a .step t .shape .0 x)
+
+pub grown-no-fault : (a : List ℕ) → Grown a → (t : ℕ) → stepArea a t .number ≡ FAULT → ⊥
+grown-no-fault a g t x =
+    let z = refusals a .step t .fault .0 x in
+    no-fault (decode a) (grown-inv a g) t (ltb-true t _ (z .1 .0)) (not-true _ (z .1 .1 .0)) (z .1 .1 .1)
+
+-- the number is that of the call on the store
+pub number-decoded : (a : List ℕ) → wellFormed a ≡ true → (e : Entry) → callArea a e .number ≡ callStore (decode a) e .number
+number-decoded a f e = rw f (go (calling (decode a) e))
+  where
+    go : (o : Outcome) → said a o ≡ reply (λ s. s) (decode a) o .number
+    go (refused number) = refl
+    go (left number value s) = refl
+
+pub grown-progress : (a : List ℕ) → Grown a → (t : ℕ) → Open a t → (u : ℕ) × Open a u × CanStep a u
+grown-progress a g t o =
+    let z = progress (decode a) (grown-inv a g) t (o .below) (o .busy) in
+    let e = number-decoded a (grown-well-formed a g) (step (z .0)) in
+    let l = leb-true (callStore (decode a) (step (z .0)) .number) FINISHED (z .3) in
+    (z .0, record { below = z .1; busy = z .2 }, omega arith)

@@ -1,0 +1,8 @@
+-- The demands over byte areas, and the bridge to them from what is proved of stores.
+pub mod Range
+pub mod Bridge
+pub mod History
+pub mod Refusals
+pub mod Demand1
+pub mod EitherOrder
+pub mod Reached

@@ -1,0 +1,104 @@
+-- What demand 1 over areas speaks of: the tables of refusals, who is open, and who can step. The calls are those of the crate store.
+use mathlib.Core.Path.{_≡_}
+use mathlib.Core.Bool.{Bool, true, false, not, _||_}
+use mathlib.Core.List.{List, [], _∷_}
+use mathlib.Core.Logic.{_↔_}
+use Prim.Native.Nat.{ℕ, _<_, _≤_}
+use lib.Dec.{eqb, ltb}
+use lib.ListN.{length}
+use Rattle.meaning.specs.declared.Thread.{Thread}
+use Rattle.meaning.specs.declared.Effect.{Effect}
+use Rattle.meaning.specs.declared.Verdict.the-variants.{Blocked, Fault, Go, Done}
+use Rattle.meaning.specs.Numbers.{WENT, FINISHED, BLOCKED, SHAPE, THREAD, BUSY, IDLE, LOGICAL, OPERATION, FAULT, LIMITS}
+use Rattle.meaning.specs.Limits.{within, inLimits}
+use Rattle.meaning.specs.Store.{Store}
+use Rattle.meaning.specs.Programs.{WRITE, LEVEL}
+use Rattle.meaning.specs.Step.{verdict}
+use Rattle.meaning.specs.Call.{isIdle}
+use Rattle.store.specs.Layout.{size}
+use Rattle.store.specs.Area.{decode, wellFormed}
+use Rattle.store.specs.Calls.{formatArea, beginArea, stepArea}
+
+-- ---- the tables of refusals: 01, "Order: format LIMITS, SHAPE; begin SHAPE, THREAD, BUSY, OPERATION, LOGICAL; step SHAPE, THREAD,
+-- IDLE, then the line's own."
+
+-- thread t is below T; it has no open work
+abbrev pub known : List ℕ → ℕ → Bool
+known a t = ltb t (decode a .threads)
+
+abbrev pub rests : List ℕ → ℕ → Bool
+rests a t = isIdle (decode a .thread t)
+
+-- the operation is one of 1 to 4; the number is below N, for operations 1 to 3
+abbrev pub operable : ℕ → Bool
+operable op = within WRITE LEVEL op
+
+abbrev pub numbered : List ℕ → ℕ → ℕ → Bool
+numbered a op n = eqb op LEVEL || ltb n (decode a .numbers)
+
+-- the tests hold, and so does what follows
+abbrev pub Past : List Bool → Type 0 → Type 0
+Past [] then = then
+Past (test ∷ tests) then = (test ≡ true) × Past tests then
+
+-- each number comes back exactly where the tests before its own hold and its own doesn't
+
+pub record FormatRefusals (a : List ℕ) (t n p d : ℕ) : Type 0 where
+  pub limits : (formatArea a t n p d .number ≡ LIMITS) ↔ (inLimits t n p d ≡ false)
+  pub shape : (formatArea a t n p d .number ≡ SHAPE) ↔ Past (inLimits t n p d ∷ []) (eqb (length a) (size t n p) ≡ false)
+  pub went : (formatArea a t n p d .number ≡ WENT) ↔ Past (inLimits t n p d ∷ []) (eqb (length a) (size t n p) ≡ true)
+
+pub record BeginRefusals (a : List ℕ) (t op n c : ℕ) : Type 0 where
+  pub shape : (beginArea a t op n c .number ≡ SHAPE) ↔ (wellFormed a ≡ false)
+  pub thread : (beginArea a t op n c .number ≡ THREAD) ↔ Past (wellFormed a ∷ []) (known a t ≡ false)
+  pub busy : (beginArea a t op n c .number ≡ BUSY) ↔ Past (wellFormed a ∷ known a t ∷ []) (rests a t ≡ false)
+  pub operation :
+      (beginArea a t op n c .number ≡ OPERATION)
+      ↔ Past (wellFormed a ∷ known a t ∷ rests a t ∷ []) (operable op ≡ false)
+  pub logical :
+      (beginArea a t op n c .number ≡ LOGICAL)
+      ↔ Past (wellFormed a ∷ known a t ∷ rests a t ∷ operable op ∷ []) (numbered a op n ≡ false)
+  pub went :
+      (beginArea a t op n c .number ≡ WENT)
+      ↔ Past (wellFormed a ∷ known a t ∷ rests a t ∷ operable op ∷ []) (numbered a op n ≡ true)
+
+-- the line's own numbers come of its verdict
+pub record StepRefusals (a : List ℕ) (t : ℕ) : Type 0 where
+  pub shape : (stepArea a t .number ≡ SHAPE) ↔ (wellFormed a ≡ false)
+  pub thread : (stepArea a t .number ≡ THREAD) ↔ Past (wellFormed a ∷ []) (known a t ≡ false)
+  pub idle : (stepArea a t .number ≡ IDLE) ↔ Past (wellFormed a ∷ known a t ∷ []) (rests a t ≡ true)
+  pub blocked :
+      (stepArea a t .number ≡ BLOCKED)
+      ↔ Past (wellFormed a ∷ known a t ∷ not (rests a t) ∷ []) (verdict (decode a) t ≡ Blocked)
+  pub fault :
+      (stepArea a t .number ≡ FAULT)
+      ↔ Past (wellFormed a ∷ known a t ∷ not (rests a t) ∷ []) (verdict (decode a) t ≡ Fault)
+  pub went :
+      (stepArea a t .number ≡ WENT)
+      ↔ Past (wellFormed a ∷ known a t ∷ not (rests a t) ∷ []) ((r : Thread) × (e : Effect) × (verdict (decode a) t ≡ Go r e))
+  pub finished :
+      (stepArea a t .number ≡ FINISHED)
+      ↔ Past (wellFormed a ∷ known a t ∷ not (rests a t) ∷ []) ((answer : ℕ) × (e : Effect) × (verdict (decode a) t ≡ Done answer e))
+
+pub record Refusals (a : List ℕ) : Type 0 where
+  pub format : (t n p d : ℕ) → FormatRefusals a t n p d
+  pub begin : (t op n c : ℕ) → BeginRefusals a t op n c
+  pub step : (t : ℕ) → StepRefusals a t
+
+-- ---- threads
+
+-- thread t has open work
+pub record Open (a : List ℕ) (t : ℕ) : Type 0 where
+  pub below : t < decode a .threads
+  pub busy : rests a t ≡ false
+
+-- "A thread can step when its step would give WENT or FINISHED."
+abbrev pub CanStep : List ℕ → ℕ → Type 0
+CanStep a t = stepArea a t .number ≤ FINISHED
+
+-- two stores have the same T, N, P and D
+pub record SameSizes (s s′ : Store) : Type 0 where
+  pub threads : s .threads ≡ s′ .threads
+  pub numbers : s .numbers ≡ s′ .numbers
+  pub blocks : s .blocks ≡ s′ .blocks
+  pub distance : s .distance ≡ s′ .distance

@@ -1,0 +1,26 @@
+-- What demand 3, first half, over areas speaks of: about to take the same lock, and steps that may go in either order.
+use mathlib.Core.Path.{_≡_}
+use mathlib.Core.List.{List}
+use Prim.Native.Nat.{ℕ}
+use Rattle.meaning.specs.declared.Act.{Act}
+use Rattle.meaning.specs.declared.Act.the-variants.{TakeH, TakeN}
+use Rattle.meaning.specs.declared.Thread.{Thread}
+use Rattle.meaning.specs.Programs.{actAt}
+use Rattle.store.specs.Calls.{stepArea}
+
+-- the act of a thread's next line
+abbrev pub nextAct : Thread → Act
+nextAct r = actAt (r .op) (r .line)
+
+-- two threads with these records are about to take the same lock: H, at W1, U1 and L1, or the lock of one number, at W2, R1, U2 and L6
+pub data SameLock (r q : Thread) : Type 0 where
+  both-H : nextAct r ≡ TakeH → nextAct q ≡ TakeH → SameLock r q
+  both-N : nextAct r ≡ TakeN → nextAct q ≡ TakeN → r .n ≡ q .n → SameLock r q
+
+-- t and u step in either order: each answers after the other what it answers before, and the bytes at the end are the same
+pub record EitherOrder (a : List ℕ) (t u : ℕ) : Type 0 where
+  pub number : stepArea (stepArea a u .after) t .number ≡ stepArea a t .number
+  pub value : stepArea (stepArea a u .after) t .value ≡ stepArea a t .value
+  pub other-number : stepArea (stepArea a t .after) u .number ≡ stepArea a u .number
+  pub other-value : stepArea (stepArea a t .after) u .value ≡ stepArea a u .value
+  pub after : stepArea (stepArea a t .after) u .after ≡ stepArea (stepArea a u .after) t .after

@@ -1,0 +1,203 @@
+-- What the demands' theorems are not empty of, as data: areas made by hand whose step meets FAULT, one for each need of each act, and
+-- areas grown from fresh at which two threads meet.
+use mathlib.Core.Bool.{Bool, true, false, _&&_}
+use mathlib.Core.List.{List, [], _∷_}
+use Prim.Native.Nat.{ℕ, _+_}
+use lib.ListN.{replicate, set}
+use lib.Dec.{eqb, leb}
+use Rattle.meaning.specs.Numbers.{WENT, FINISHED, BLOCKED}
+use Rattle.meaning.specs.Programs.{WRITE, READ, UNMAP, LEVEL}
+use Rattle.meaning.specs.Call.{Reply, Entry, begin}
+use Rattle.meaning.specs.Schedule.{run, steps}
+use Rattle.store.specs.Layout.{lockAt, ownerAt, locksAt, blocksAt, size}
+use Rattle.store.specs.Area.{bytes, decode}
+use Rattle.store.specs.Calls.{formatArea, callArea, stepArea}
+
+-- ---- needs that are not met
+
+-- an area of one thread, one number and two blocks, made by hand: thread 0 stands at a line with registers 0; then the words of H,
+-- headers' owner, the number's lock, block 0's header and owner, and block 1's header
+abbrev pub made : ℕ → ℕ → ℕ → ℕ → ℕ → ℕ → ℕ → ℕ → List ℕ
+made op line lock owner locks header own header′ =
+    1 ∷ 1 ∷ 2 ∷ 1 ∷ lock ∷ owner  -- T, N, P, D, header lock, headers' owner
+    ∷ op ∷ line ∷ 0 ∷ 0 ∷ 0 ∷ 0 ∷ 0  -- thread 0
+    ∷ 0 ∷ locks  -- number 0 is unmapped; its lock
+    ∷ header ∷ 0 ∷ 0 ∷ own  -- block 0
+    ∷ header′ ∷ 0 ∷ 0 ∷ 0  -- block 1
+    ∷ []
+
+-- where the two words of block 0 stand, and the lock of number 0
+abbrev pub headerAt : ℕ
+headerAt = blocksAt 1 1
+
+abbrev pub ownAt : ℕ
+ownAt = blocksAt 1 1 + 3
+
+abbrev pub lockOfAt : ℕ
+lockOfAt = locksAt 1 1
+
+-- an area that lacks what a line needs in one word, and what that word is where the line has it
+pub record Need : Type 0 where
+  pub words : List ℕ
+  pub at : ℕ
+  pub has : ℕ
+
+-- the numbers of thread 0's step where the need isn't met and where it is
+pub record Met : Type 0 where
+  pub lacking : ℕ
+  pub having : Bool
+
+abbrev pub met : Need → Met
+met x =
+    record {
+      lacking = stepArea (bytes (x .words)) 0 .number;
+      having = leb (stepArea (bytes (set (x .words) (x .at) (x .has))) 0 .number) FINISHED;
+    }
+
+abbrev pub lacks : List ℕ → ℕ → ℕ → Need
+lacks words at has = record { words = words; at = at; has = has }
+
+unfoldable pub needs : List Need
+needs =
+    -- releasing a lock needs to hold it
+    lacks (made WRITE 12 0 0 0 0 0 0) lockAt 1  -- W12
+    ∷ lacks (made UNMAP 11 0 0 0 0 0 0) lockAt 1  -- U11
+    ∷ lacks (made UNMAP 10 0 0 0 0 0 0) lockOfAt 1  -- U10
+    ∷ lacks (made READ 6 0 0 0 0 0 0) lockOfAt 1  -- R6
+    -- owning needs no owner
+    ∷ lacks (made WRITE 4 0 1 0 0 0 0) ownerAt 0  -- W4
+    ∷ lacks (made WRITE 6 0 0 0 0 1 0) ownAt 0  -- W6
+    -- letting go needs ownership
+    ∷ lacks (made WRITE 11 0 0 0 0 0 0) ownerAt 1  -- W11
+    ∷ lacks (made WRITE 9 0 0 0 0 0 0) ownAt 1  -- W9
+    -- content needs the block owned, and its header not free
+    ∷ lacks (made WRITE 8 0 0 0 1 0 0) ownAt 1  -- W8
+    ∷ lacks (made WRITE 8 0 0 0 0 1 0) headerAt 1  -- W8
+    ∷ lacks (made READ 4 0 0 0 1 0 0) ownAt 1  -- R4
+    ∷ lacks (made READ 4 0 0 0 0 1 0) headerAt 1  -- R4
+    ∷ lacks (made WRITE 14 0 0 0 1 0 0) ownAt 1  -- W14
+    ∷ lacks (made WRITE 14 0 0 0 0 1 0) headerAt 1  -- W14
+    -- writing a header needs headers and block
+    ∷ lacks (made WRITE 7 0 0 0 0 1 0) ownerAt 1  -- W7
+    ∷ lacks (made WRITE 7 0 1 0 0 0 0) ownAt 1  -- W7
+    ∷ lacks (made LEVEL 10 0 0 0 0 1 0) ownerAt 1  -- L10
+    ∷ lacks (made LEVEL 10 0 1 0 0 0 0) ownAt 1  -- L10
+    ∷ lacks (made UNMAP 7 0 0 0 0 1 0) ownerAt 1  -- U7
+    ∷ lacks (made UNMAP 7 0 1 0 0 0 0) ownAt 1  -- U7
+    -- L4, W5 and L3 need headers
+    ∷ lacks (made LEVEL 4 0 0 0 0 0 0) ownerAt 1  -- L4
+    ∷ lacks (made WRITE 5 0 0 0 0 0 0) ownerAt 1  -- W5
+    ∷ lacks (made LEVEL 3 0 0 0 0 0 0) ownerAt 1  -- L3
+    -- W5 and L3 need some free block
+    ∷ lacks (made WRITE 5 0 1 0 1 0 1) headerAt 0  -- W5
+    ∷ lacks (made LEVEL 3 0 1 0 1 0 1) headerAt 0  -- L3
+    ∷ []
+
+-- ---- two threads that meet
+
+-- a thread that is to step: where it stands, and the numbers of its step before and after the other's
+pub record Passing : Type 0 where
+  pub op : ℕ
+  pub line : ℕ
+  pub first : ℕ
+  pub second : ℕ
+
+-- threads 0 and 1 step, in the one order and in the other; alike: the bytes are the same at the end
+pub record Passed : Type 0 where
+  pub zeroth : Passing
+  pub other : Passing
+  pub alike : Bool
+
+-- a format and a schedule, and what must come of threads 0 and 1 then
+pub record Meeting : Type 0 where
+  pub t : ℕ
+  pub n : ℕ
+  pub p : ℕ
+  pub d : ℕ
+  pub before : List Entry
+  pub comes : Passed
+
+-- an area of bytes that are all 255, formatted
+abbrev pub formed : ℕ → ℕ → ℕ → ℕ → Reply (List ℕ)
+formed t n p d = formatArea (replicate (size t n p) 255) t n p d
+
+-- the area where the threads meet
+abbrev pub reached : Meeting → List ℕ
+reached m = run callArea (formed (m .t) (m .n) (m .p) (m .d) .after) (m .before)
+
+abbrev pub sameBytes : List ℕ → List ℕ → Bool
+sameBytes [] [] = true
+sameBytes [] (y ∷ l) = false
+sameBytes (x ∷ k) [] = false
+sameBytes (x ∷ k) (y ∷ l) = eqb x y && sameBytes k l
+
+abbrev pub passing : List ℕ → ℕ → ℕ → Passing
+passing a t u =
+    record {
+      op = decode a .thread t .op;
+      line = decode a .thread t .line;
+      first = stepArea a t .number;
+      second = stepArea (stepArea a u .after) t .number;
+    }
+
+abbrev pub meet : List ℕ → Passed
+meet a =
+    record {
+      zeroth = passing a 0 1;
+      other = passing a 1 0;
+      alike = sameBytes (stepArea (stepArea a 0 .after) 1 .after) (stepArea (stepArea a 1 .after) 0 .after);
+    }
+
+-- how meetings are written
+
+abbrev pub at : ℕ → ℕ → ℕ → ℕ → Passing
+at op line first second = record { op = op; line = line; first = first; second = second }
+
+-- thread t begins an operation and takes so many steps
+abbrev pub does : ℕ → ℕ → ℕ → ℕ → ℕ → List Entry → List Entry
+does t op n c count rest = begin t op n c ∷ steps count t rest
+
+unfoldable pub meetings : List Meeting
+meetings =
+    -- in the middle of a write of number 0, on block 1, and of a levelling that moves number 1 from block 0 to block 2
+    record {
+      t = 2;
+      n = 3;
+      p = 4;
+      d = 1;
+      before = does 1 WRITE 1 5 16 (does 0 WRITE 0 7 13 (does 1 WRITE 2 6 16 (does 1 UNMAP 2 0 11 (does 1 LEVEL 0 0 11 []))));
+      comes = record { zeroth = at WRITE 14 WENT WENT; other = at LEVEL 12 WENT WENT; alike = true };
+    }
+    -- a read that finishes, and a levelling that chooses
+    ∷ record {
+      t = 2;
+      n = 1;
+      p = 2;
+      d = 1;
+      before = does 0 READ 0 0 2 (does 1 LEVEL 0 0 2 []);
+      comes = record { zeroth = at READ 6 FINISHED FINISHED; other = at LEVEL 3 WENT WENT; alike = true };
+    }
+    -- two writes that are about to take H: whoever comes second is BLOCKED
+    ∷ record {
+      t = 2;
+      n = 1;
+      p = 2;
+      d = 1;
+      before = does 0 WRITE 0 7 0 (does 1 WRITE 0 8 0 []);
+      comes = record { zeroth = at WRITE 1 WENT BLOCKED; other = at WRITE 1 WENT BLOCKED; alike = false };
+    }
+    -- a read and a write that are about to take the lock of number 0
+    ∷ record {
+      t = 2;
+      n = 1;
+      p = 2;
+      d = 1;
+      before = does 0 READ 0 0 0 (does 1 WRITE 0 8 1 []);
+      comes = record { zeroth = at READ 1 WENT BLOCKED; other = at WRITE 2 WENT BLOCKED; alike = false };
+    }
+    ∷ []
+
+-- what holds of each meeting
+abbrev pub Each : (Meeting → Type 0) → List Meeting → Type 0
+Each A [] = Unit {0}
+Each A (m ∷ l) = A m × Each A l

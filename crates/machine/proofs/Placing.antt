@@ -78,12 +78,12 @@ module _ (n p : ℕ) where
     perform-placed (GoIfUnmapped l) = by-test (free (s .map (r .n))) (λ y. rw y nowhere) (λ y. rw y nowhere)
     perform-placed (EmptyIfUnmapped l) = by-test (free (s .map (r .n))) (λ y. rw y nowhere) (λ y. rw y nowhere)
     perform-placed (GoIfFree l) = by-test (free (r .h)) (λ y. rw y nowhere) (λ y. rw y nowhere)
-    perform-placed PickFree = 
+    perform-placed PickFree =
         by-test (heldBy t (s .owner))
         (λ y.
         by-test (ltb (lowestFree (s .header) (s .blocks)) (s .blocks)) (λ z. rw (y, z) nowhere) (λ z. rw (y, z) tt))
         (λ y. rw y tt)
-    perform-placed Choose = 
+    perform-placed Choose =
         by-test (heldBy t (s .owner))
         (λ y.
         rw y

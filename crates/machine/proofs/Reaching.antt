@@ -62,7 +62,7 @@ module _ {a b : List ℕ} {t n p : ℕ} {s : Store} (r : Reached a b t n p s) wh
       (record {
         decoded = decode-lock (r .live) w f ∙ ap (λ x. made x (lockOnly w)) (r .decoded);
         live = live-become (r .live) lockAt w (omega (arith, r .live .fits)) (omega arith) f;
-        bytes = λ h. bytes-become b lockAt w (r .bytes h)
+        bytes = λ h. bytes-become b lockAt w (r .bytes h);
       })
 
   pub reached-owner : {c : List ℕ} (w : Word) → c ≡ putBecome b ownerAt w → BecomeFits w → Reached a c t n p (made s (ownerOnly w))
@@ -71,7 +71,7 @@ module _ {a b : List ℕ} {t n p : ℕ} {s : Store} (r : Reached a b t n p s) wh
       (record {
         decoded = decode-owner (r .live) w f ∙ ap (λ x. made x (ownerOnly w)) (r .decoded);
         live = live-become (r .live) ownerAt w (omega (arith, r .live .fits)) (omega arith) f;
-        bytes = λ h. bytes-become b ownerAt w (r .bytes h)
+        bytes = λ h. bytes-become b ownerAt w (r .bytes h);
       })
 
   -- a table at `from`, with what the law of that table says
@@ -84,7 +84,7 @@ module _ {a b : List ℕ} {t n p : ℕ} {s : Store} (r : Reached a b t n p s) wh
       (record {
         decoded = law ∙ ap (λ y. made y x) (r .decoded);
         live = live-entry (r .live) from stride count e h inside f;
-        bytes = λ y. bytes-entry b from stride e (r .bytes y)
+        bytes = λ y. bytes-entry b from stride e (r .bytes y);
       })
 
   pub reached-thread :
@@ -95,7 +95,7 @@ module _ {a b : List ℕ} {t n p : ℕ} {s : Store} (r : Reached a b t n p s) wh
       (record {
         decoded = decode-thread (r .live) k x f h ∙ ap (λ y. apply y k x nothing) (r .decoded);
         live = live-thread (r .live) k x f h;
-        bytes = λ y. bytes-thread b (threadsAt + threadWords * k) x (r .bytes y)
+        bytes = λ y. bytes-thread b (threadsAt + threadWords * k) x (r .bytes y);
       })
 
 -- what a setter of a table asks

@@ -74,8 +74,8 @@ best-more {eligible} {beats} {n} {k} {f} {g} p b h q e =
     record {
       most = omega arith;
       found =
-        e ∙ ap (λ x. challenge (eligible k) (λ _ _. beats k x) k f) q ∙ challenge-place (eligible k) beats k f
-        ∙ rw add-one (ap (challenge (eligible k) beats k) (b .found))
+          e ∙ ap (λ x. challenge (eligible k) (λ _ _. beats k x) k f) q ∙ challenge-place (eligible k) beats k f
+          ∙ rw add-one (ap (challenge (eligible k) beats k) (b .found));
     }
 
 pub best-done : {eligible : ℕ → Bool} {beats : ℕ → ℕ → Bool} {n k : ℕ} {f : Found} → Best eligible beats n k f → n ≤ k → f ≡ best eligible beats n

@@ -64,7 +64,7 @@ nearOf r lock owner map locks header content wear own =
       «content_p» = content (r .p);
       «wear_p» = wear (r .p);
       «own_p» = own (r .p);
-      «own_q» = own (r .q)
+      «own_q» = own (r .q);
     }
 
 -- W5's verdict of the headers, their owner and how many blocks there are

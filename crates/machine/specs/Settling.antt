@@ -37,7 +37,7 @@ unblocked lock owner map locks =
       header = Keep;
       content = Keep;
       wear = Keep;
-      own = Keep
+      own = Keep;
     }
 
 abbrev pub onBlocks : Entry → Entry → Entry → Entry → Effect
@@ -50,5 +50,5 @@ onBlocks header content wear own =
       header = header;
       content = content;
       wear = wear;
-      own = own
+      own = own;
     }

@@ -15,7 +15,6 @@ ghost use Rattle.store.specs.Live.{table, Live, EntryBelow, made};
 ghost use Rattle.machine.specs.Settling.{Places, Reached, unblocked, onBlocks};
 ghost use Rattle.store.specs.Area.{decode};
 ghost use Rattle.machine.specs.Judging.{placeOf, chosenOf, pickedOf, ofReg, touchesOf, Sees, Searches, nearOf, Steady, AtLine};
-
 use meaning::Act;
 use meaning::Effect;
 use meaning::Entry;
@@ -88,7 +87,11 @@ fn better(eligible: bool, beats: bool, k: u32, found: Found) -> Found
 }
 
 // L3's "to": the free block with most wear, the lowest number on ties.
-fn to_block<'a>(header: &'a [u32; Store::MAX_P], wear: &'a [u32; Store::MAX_P], blocks: u32) -> Found
+fn to_block<'a>(
+    header: &'a [u32; Store::MAX_P],
+    wear: &'a [u32; Store::MAX_P],
+    blocks: u32,
+) -> Found
     requires { ⌜ blocks ≤ mostBlocks ⌝ }
     ensures { λ r. ⌜ r ≡ toBlock (table (now (header .entry))) (table (now (wear .entry))) blocks ⌝ }
 {
@@ -104,7 +107,11 @@ fn to_block<'a>(header: &'a [u32; Store::MAX_P], wear: &'a [u32; Store::MAX_P], 
 }
 
 // L3's "from": the mapped block with least wear, the lowest number on ties.
-fn least_worn<'a>(header: &'a [u32; Store::MAX_P], wear: &'a [u32; Store::MAX_P], blocks: u32) -> Found
+fn least_worn<'a>(
+    header: &'a [u32; Store::MAX_P],
+    wear: &'a [u32; Store::MAX_P],
+    blocks: u32,
+) -> Found
     requires { ⌜ blocks ≤ mostBlocks ⌝ }
     ensures { λ r. ⌜ r ≡ leastWorn (table (now (header .entry))) (table (now (wear .entry))) blocks ⌝ }
 {
@@ -206,7 +213,10 @@ fn pick(header: &[u32; Store::MAX_P], blocks: u32, owner: u32, t: u32, r: Thread
 {
     let p = lowest_free(header, blocks);
     let on = acts::set_p(p, acts::onward(r));
-    acts::need(owner == t + 1, acts::need(p < blocks, Verdict::Go(on, acts::nothing())))
+    acts::need(
+        owner == t + 1,
+        acts::need(p < blocks, Verdict::Go(on, acts::nothing())),
+    )
 }
 
 // What the act would do: an arm an act, as in specs/Step.antt. It looks at the words near its record and, where it searches, at all
@@ -235,27 +245,63 @@ fn perform<'a>(
         Act::Nothing => Verdict::Fault,
         Act::TakeH => acts::take(x.lock == 0, Verdict::Go(on, acts::on_lock(me))),
         Act::ReleaseH => acts::need(x.lock == me, Verdict::Go(on, acts::on_lock(0))),
-        Act::FinishH(a) => acts::need(x.lock == me, Verdict::Done(acts::answer(a, r), acts::on_lock(0))),
+        Act::FinishH(a) => acts::need(
+            x.lock == me,
+            Verdict::Done(acts::answer(a, r), acts::on_lock(0)),
+        ),
         Act::TakeN => acts::take(x.locks == 0, Verdict::Go(on, acts::on_locks(r.n, me))),
         Act::ReleaseN => acts::need(x.locks == me, Verdict::Go(on, acts::on_locks(r.n, 0))),
-        Act::FinishN(a) => acts::need(x.locks == me, Verdict::Done(acts::answer(a, r), acts::on_locks(r.n, 0))),
+        Act::FinishN(a) => acts::need(
+            x.locks == me,
+            Verdict::Done(acts::answer(a, r), acts::on_locks(r.n, 0)),
+        ),
         Act::OwnHeaders => acts::need(x.owner == 0, Verdict::Go(on, acts::on_owner(me))),
         Act::LetGoHeaders => acts::need(x.owner == me, Verdict::Go(on, acts::on_owner(0))),
-        Act::Own(b) => acts::need(of_reg(b, x.own_p, x.own_q) == 0, Verdict::Go(on, acts::on_own(acts::block(b, r), me))),
-        Act::LetGo(b) => acts::need(of_reg(b, x.own_p, x.own_q) == me, Verdict::Go(on, acts::on_own(acts::block(b, r), 0))),
-        Act::GoIfMapped(l) => either(x.map == 0, Verdict::Go(on, none), Verdict::Go(acts::goto(l, acts::set_p(named(x.map), r)), none)),
+        Act::Own(b) => acts::need(
+            of_reg(b, x.own_p, x.own_q) == 0,
+            Verdict::Go(on, acts::on_own(acts::block(b, r), me)),
+        ),
+        Act::LetGo(b) => acts::need(
+            of_reg(b, x.own_p, x.own_q) == me,
+            Verdict::Go(on, acts::on_own(acts::block(b, r), 0)),
+        ),
+        Act::GoIfMapped(l) => either(
+            x.map == 0,
+            Verdict::Go(on, none),
+            Verdict::Go(acts::goto(l, acts::set_p(named(x.map), r)), none),
+        ),
         Act::GoIfUnmapped(l) => either(x.map == 0, Verdict::Go(acts::goto(l, r), none), found),
-        Act::EmptyIfUnmapped(l) => either(x.map == 0, Verdict::Go(acts::goto(l, acts::set_c(0, r)), none), found),
-        Act::GoIfFree(l) => either(r.h == 0, Verdict::Go(acts::goto(l, r), none), Verdict::Go(acts::set_n(named(r.h), on), none)),
+        Act::EmptyIfUnmapped(l) => either(
+            x.map == 0,
+            Verdict::Go(acts::goto(l, acts::set_c(0, r)), none),
+            found,
+        ),
+        Act::GoIfFree(l) => either(
+            r.h == 0,
+            Verdict::Go(acts::goto(l, r), none),
+            Verdict::Go(acts::set_n(named(r.h), on), none),
+        ),
         Act::PickFree => pick(header, blocks, x.owner, t, r),
         Act::Choose => acts::need(x.owner == me, choose(header, wear, blocks, distance, r)),
-        Act::ReadHeader => acts::need(x.owner == me, Verdict::Go(acts::set_h(x.header_p, on), none)),
+        Act::ReadHeader => acts::need(
+            x.owner == me,
+            Verdict::Go(acts::set_h(x.header_p, on), none),
+        ),
         Act::WriteHeaderN => acts::need(heads_p, Verdict::Go(on, acts::on_header(r.p, r.n + 1))),
-        Act::WriteHeaderH => acts::need((x.owner == me) & (x.own_q == me), Verdict::Go(on, acts::on_header(r.q, r.h))),
-        Act::FreeHeader => acts::need(heads_p, Verdict::Go(on, acts::on_freed(r.p, acts::worn(x.wear_p)))),
+        Act::WriteHeaderH => acts::need(
+            (x.owner == me) & (x.own_q == me),
+            Verdict::Go(on, acts::on_header(r.q, r.h)),
+        ),
+        Act::FreeHeader => acts::need(
+            heads_p,
+            Verdict::Go(on, acts::on_freed(r.p, acts::worn(x.wear_p))),
+        ),
         Act::EmptyContent => acts::need(touches_p, Verdict::Go(on, acts::on_content(r.p, 0))),
         Act::ReadContent => acts::need(touches_p, Verdict::Go(acts::set_c(x.content_p, on), none)),
-        Act::WriteContent(b) => acts::need(touches(b, touches_p, touches_q), Verdict::Go(on, acts::on_content(acts::block(b, r), r.c))),
+        Act::WriteContent(b) => acts::need(
+            touches(b, touches_p, touches_q),
+            Verdict::Go(on, acts::on_content(acts::block(b, r), r.c)),
+        ),
         Act::MapTo(b) => Verdict::Go(on, acts::on_map(r.n, acts::block(b, r) + 1)),
         Act::Unmap => Verdict::Go(on, acts::on_map(r.n, 0)),
     }
@@ -307,7 +353,17 @@ pub fn judge(area: &[u8], z: Sizes, t: u32, r: Thread) -> Verdict
 {
     let s = store::load(area, z.t, z.n, z.p);
     let act = acts::act_at(r.op, r.line);
-    let words = words_near(r, s.lock, s.owner, &s.map, &s.locks, &s.header, &s.content, &s.wear, &s.own);
+    let words = words_near(
+        r,
+        s.lock,
+        s.owner,
+        &s.map,
+        &s.locks,
+        &s.header,
+        &s.content,
+        &s.wear,
+        &s.own,
+    );
     perform(act, t, r, words, &s.header, &s.wear, s.p, s.d)
 }
 

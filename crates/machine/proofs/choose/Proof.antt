@@ -10,9 +10,10 @@ use Rattle.machine.proofs.choose.Statement.{statement}
 use Rattle.machine.proofs.choose.Tie as tie
 
 from-block-requires : tie.Need-from-block-requires
-from-block-requires c κs =
-    (rw (c .before .to .given .1) at (found-below _ _ _ (c .before .before .before .before .to-block .ensures) (c .before .before .before .before .before .pre .0)),
-     found-below _ _ _ (c .before .before .before .least-worn .ensures) (c .before .before .before .before .before .pre .0))
+from-block-requires c κs = (
+  rw (c .before .to .given .1) at (found-below _ _ _ (c .before .before .before .before .to-block .ensures) (c .before .before .before .before .before .pre .0)),
+  found-below _ _ _ (c .before .before .before .least-worn .ensures) (c .before .before .before .before .before .pre .0),
+)
 
 next-requires : tie.Need-next-requires
 next-requires c κs = omega (arith, ap (λ x. x .line) (c .before .set-q .ensures), ap (λ x. x .line) (c .before .before .set-p .ensures))
@@ -26,10 +27,10 @@ returns-2 c =
     let wear = table (a .wear .now) in
     let q = c .before .before .before .before .before .before .to .given .0 .0 in
     let chosen =
-        c .before .before .set-q .ensures
-        ∙ ap (setQ q)
-        (c .before .before .before .set-p .ensures
-        ∙ ap (λ x. setP x (a .r)) (c .before .before .before .before .from-block .ensures ∙ ap (fromBlock wear (a .distance) q) (c .before .before .before .before .before .before .before .before .least-worn .ensures)))
+    c .before .before .set-q .ensures
+    ∙ ap (setQ q)
+    (c .before .before .before .set-p .ensures
+    ∙ ap (λ x. setP x (a .r)) (c .before .before .before .before .from-block .ensures ∙ ap (fromBlock wear (a .distance) q) (c .before .before .before .before .before .before .before .before .least-worn .ensures)))
     in
     rw (sym (c .before .before .before .before .before .before .before .before .before .to-block .ensures) ∙ c .before .before .before .before .before .before .to .given .1) (c .next .ensures ∙ ap₂ next chosen (c .before .nothing .ensures))
 

@@ -8,9 +8,10 @@ use Rattle.machine.proofs.judge.Statement.{statement}
 use Rattle.machine.proofs.judge.Tie as tie
 
 perform-requires : tie.Need-perform-requires
-perform-requires c κs =
-    (c .before .before .before .before .before .before .before .before .before .before .before .before .before .before .pre .1,
-     omega (arith, ap (λ x. x .blocks) (c .before .before .before .before .before .before .before .before .before .before .before .before .load .ensures), c .before .before .before .before .before .before .before .before .before .before .before .before .before .before .pre .0))
+perform-requires c κs = (
+  c .before .before .before .before .before .before .before .before .before .before .before .before .before .before .pre .1,
+  omega (arith, ap (λ x. x .blocks) (c .before .before .before .before .before .before .before .before .before .before .before .before .load .ensures), c .before .before .before .before .before .before .before .before .before .before .before .before .before .before .pre .0),
+)
 
 returns : tie.Need-returns
 returns c =
@@ -28,7 +29,7 @@ returns c =
       content-p = ap (λ x. x .«content_p») w;
       wear-p = ap (λ x. x .«wear_p») w;
       own-p = ap (λ x. x .«own_p») w;
-      own-q = ap (λ x. x .«own_q») w
+      own-q = ap (λ x. x .«own_q») w;
     })
     (record { header = refl; wear = refl; blocks = refl; distance = refl })
     ∙ ap₂ (λ act x. perform act x (a .t) (a .r)) (c .before .before .before .before .before .before .before .before .before .before .before .before .act-at .ensures) (c .before .before .before .before .before .before .before .before .before .before .before .before .before .load .ensures)

@@ -5,13 +5,14 @@ use Rattle.machine.proofs.pick.Tie as tie
 
 returns : tie.Need-returns
 returns c =
-    simp
-    (c .need2 .ensures,
-     c .before .need .ensures,
-     c .before .before .nothing .ensures,
-     c .before .before .before .set-p .ensures,
-     c .before .before .before .before .onward .ensures,
-     c .before .before .before .before .before .lowest-free .ensures)
+    simp (
+      c .need2 .ensures,
+      c .before .need .ensures,
+      c .before .before .nothing .ensures,
+      c .before .before .before .set-p .ensures,
+      c .before .before .before .before .onward .ensures,
+      c .before .before .before .before .before .lowest-free .ensures,
+    )
 
 pub pick-spec : {M : Type 1} → statement M
 pick-spec =

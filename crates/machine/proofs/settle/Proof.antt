@@ -38,11 +38,11 @@ returns c =
     let r₃ = c .before .before .settle-blocks .ensures in
     record {
       decoded =
-        r₃ .decoded
-        ∙ ap (λ s. made s (onBlocks (e .header) (e .content) (e .wear) (e .own)))
-        (r₂ .decoded ∙ ap (λ s. made s (unblocked (e .lock) (e .owner) (e .map) (e .locks))) (r₁ .decoded));
+          r₃ .decoded
+          ∙ ap (λ s. made s (onBlocks (e .header) (e .content) (e .wear) (e .own)))
+          (r₂ .decoded ∙ ap (λ s. made s (unblocked (e .lock) (e .owner) (e .map) (e .locks))) (r₁ .decoded));
       live = r₃ .live;
-      bytes = λ h. r₃ .bytes (r₂ .bytes (r₁ .bytes h))
+      bytes = λ h. r₃ .bytes (r₂ .bytes (r₁ .bytes h));
     }
 
 pub settle-spec : {M : Type 1} → statement M

@@ -1,0 +1,2 @@
+-- What the exported contracts say.
+pub mod Means

@@ -1,0 +1,3 @@
+pub mod Syntax
+pub mod Printing
+pub mod Places

@@ -1,0 +1,26 @@
+-- 01, "The script program": "For each line it prints number, blank, value, newline."
+use mathlib.Core.Bool.{cond}
+use mathlib.Core.List.{List, [], _∷_, _++_}
+use Prim.Native.Nat.{ℕ, zero, suc, _+_, _/_, _%_}
+use lib.ListN.{length, take, drop}
+use lib.Dec.{ltb}
+use Rattle.script.specs.Syntax.{NEWLINE, BLANK, ZERO}
+
+-- the digits of v, of which there are at most so many
+abbrev pub figures : ℕ → ℕ → List ℕ
+figures zero v = []
+figures (suc k) v = cond (ltb v 10) [] (figures k (v / 10)) ++ ((ZERO + v % 10) ∷ [])
+
+-- a word in decimal: it is at most 4,294,967,295, so it has at most ten digits
+abbrev pub mostFigures : ℕ
+mostFigures = 10
+
+abbrev pub decimal : ℕ → List ℕ
+decimal v = figures mostFigures v
+
+abbrev pub printed : ℕ → ℕ → List ℕ
+printed number value = decimal number ++ (BLANK ∷ decimal value ++ (NEWLINE ∷ []))
+
+-- a buffer with some bytes written at a place, and all else as it was
+abbrev pub written : List ℕ → ℕ → List ℕ → List ℕ
+written buffer at bs = take at buffer ++ bs ++ drop (at + length bs) buffer

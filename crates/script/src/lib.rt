@@ -1,0 +1,199 @@
+// The script language on slices: 01, "The script program". What it prints is `output` of specs/Output.antt.
+ghost use mathlib.Core.Path.{_≡_};
+ghost use Prim.Native.Nat.{_+_, _-_, _≤_, _<_};
+ghost use lib.ListN.{length, take, drop};
+ghost use Rattle.script.specs.Syntax.{digits, bounded, number, field, four, asFormat, asBegin, asStep, command, lines};
+ghost use Rattle.script.specs.Printing.{figures, printed, written};
+ghost use Rattle.script.specs.Places.{seen, cutAt, Inside};
+
+const NEWLINE: u8 = 10;
+const BLANK: u8 = 32;
+const ZERO: u8 = 48;
+const NINE: u8 = 57;
+
+// The largest number that a field may have.
+const MOST: u64 = 4294967295;
+
+// What stands at a place of a line: no number, or a number, and the place after it.
+pub enum Field {
+    Missing,
+    Read(u32, usize),
+}
+
+// The rest of a line: four fields, or anything else.
+pub enum Four {
+    Fewer,
+    All(u32, u32, u32, u32),
+}
+
+// A line: `f T N P D`, `b t op n c`, `s t`, or of another form.
+pub enum Command {
+    Bad,
+    Format(u32, u32, u32, u32),
+    Begin(u32, u32, u32, u32),
+    Step(u32),
+}
+
+// What stands at a place of an input: nothing; bytes with no newline after them; or a line, and the place of its newline.
+pub enum Line {
+    End,
+    Torn,
+    Ending(usize),
+}
+
+fn wide(b: u8) -> u64
+    ensures { λ r. ⌜ r ≡ b ⌝ }
+{
+    b as u64
+}
+
+// The digits from a place on, after those whose value is `first`.
+fn read_digits(line: &[u8], from: usize, first: u32) -> Field
+    ensures { λ r. ⌜ seen (now (line .entry)) r ≡ bounded (digits first (drop from (now (line .entry)))) ⌝ }
+{
+    let mut value = first as u64;
+    let mut at = from;
+    while at < line.len() {
+        let b = line[at];
+        if b < ZERO {
+            return Field::Read(value as u32, at);
+        }
+        if NINE < b {
+            return Field::Read(value as u32, at);
+        }
+        value = 10 * value + wide(b - ZERO);
+        if MOST < value {
+            return Field::Missing;
+        }
+        at += 1;
+    }
+    Field::Read(value as u32, at)
+}
+
+// The number at a place. One that starts with 0 is 0 and ends there.
+fn read_number(line: &[u8], at: usize) -> Field
+    ensures { λ r. ⌜ seen (now (line .entry)) r ≡ number (drop at (now (line .entry))) ⌝ }
+{
+    if line.len() <= at {
+        return Field::Missing;
+    }
+    let b = line[at];
+    let next = at + 1;
+    if b == ZERO {
+        return Field::Read(0, next);
+    }
+    if b < ZERO {
+        return Field::Missing;
+    }
+    if NINE < b {
+        return Field::Missing;
+    }
+    read_digits(line, next, (b - ZERO) as u32)
+}
+
+// The blank at a place, and the number after it.
+fn read_field(line: &[u8], at: usize) -> Field
+    ensures { λ r. ⌜ seen (now (line .entry)) r ≡ field (drop at (now (line .entry))) ⌝ }
+{
+    if line.len() <= at {
+        return Field::Missing;
+    }
+    let b = line[at];
+    if b == BLANK {
+        return read_number(line, at + 1);
+    }
+    Field::Missing
+}
+
+// Four fields from a place on, and nothing after them.
+fn read_four(line: &[u8], at: usize) -> Four
+    ensures { λ r. ⌜ r ≡ four (drop at (now (line .entry))) ⌝ }
+{
+    let Field::Read(w, at1) = read_field(line, at) else {
+        return Four::Fewer;
+    };
+    let Field::Read(x, at2) = read_field(line, at1) else {
+        return Four::Fewer;
+    };
+    let Field::Read(y, at3) = read_field(line, at2) else {
+        return Four::Fewer;
+    };
+    let Field::Read(z, at4) = read_field(line, at3) else {
+        return Four::Fewer;
+    };
+    if at4 < line.len() {
+        Four::Fewer
+    } else {
+        Four::All(w, x, y, z)
+    }
+}
+
+fn as_format(four: Four) -> Command
+    ensures { λ r. ⌜ r ≡ asFormat four ⌝ }
+{
+    match four {
+        Four::Fewer => Command::Bad,
+        Four::All(t, n, p, d) => Command::Format(t, n, p, d),
+    }
+}
+
+fn as_begin(four: Four) -> Command
+    ensures { λ r. ⌜ r ≡ asBegin four ⌝ }
+{
+    match four {
+        Four::Fewer => Command::Bad,
+        Four::All(t, op, n, c) => Command::Begin(t, op, n, c),
+    }
+}
+
+// One field from a place on, and nothing after it.
+fn read_step(line: &[u8], at: usize) -> Command
+    ensures { λ r. ⌜ r ≡ asStep (field (drop at (now (line .entry)))) ⌝ }
+{
+    let Field::Read(t, end) = read_field(line, at) else {
+        return Command::Bad;
+    };
+    if end < line.len() {
+        Command::Bad
+    } else {
+        Command::Step(t)
+    }
+}
+
+// A line, without its newline.
+fn read_command(line: &[u8]) -> Command
+    ensures { λ r. ⌜ r ≡ command (now (line .entry)) ⌝ }
+{
+    if line.len() == 0 {
+        return Command::Bad;
+    }
+    let letter = line[0];
+    if letter == b'f' {
+        return as_format(read_four(line, 1));
+    }
+    if letter == b'b' {
+        return as_begin(read_four(line, 1));
+    }
+    if letter == b's' {
+        return read_step(line, 1);
+    }
+    Command::Bad
+}
+
+// The line at a place of the input.
+fn next_line(input: &[u8], at: usize) -> Line
+    ensures { λ r. ⌜ cutAt (now (input .entry)) at r ≡ lines (drop at (now (input .entry))) ⌝ }
+    ensures { λ r. ⌜ Inside at (length (now (input .entry))) r ⌝ }
+{
+    if input.len() <= at {
+        return Line::End;
+    }
+    let mut e = at;
+    while e < input.len() {
+        if input[e] == NEWLINE {
+            return Line::Ending(e);
+        }
+        e += 1;
+    }
+    Line::Torn
+}

@@ -1,5 +1,6 @@
 -- 01, "The script program": "For each line it prints number, blank, value, newline."
 use mathlib.Core.Bool.{cond}
+use mathlib.Core.Path.{_≡_}
 use mathlib.Core.List.{List, [], _∷_, _++_}
 use Prim.Native.Nat.{ℕ, zero, suc, _+_, _/_, _%_}
 use lib.ListN.{length, take, drop}
@@ -21,6 +22,7 @@ decimal v = figures mostFigures v
 abbrev pub printed : ℕ → ℕ → List ℕ
 printed number value = decimal number ++ (BLANK ∷ decimal value ++ (NEWLINE ∷ []))
 
--- a buffer with some bytes written at a place, and all else as it was
-abbrev pub written : List ℕ → ℕ → List ℕ → List ℕ
-written buffer at bs = take at buffer ++ bs ++ drop (at + length bs) buffer
+-- some bytes were written into a buffer at a place, with all else as it was: where they end, and the buffer after it
+pub record Wrote (before : List ℕ) (at : ℕ) (bs : List ℕ) (end : ℕ) (after : List ℕ) : Type 0 where
+  pub ends : end ≡ at + length bs
+  pub holds : after ≡ take at before ++ bs ++ drop (at + length bs) before

@@ -3,7 +3,7 @@ ghost use mathlib.Core.Path.{_≡_};
 ghost use Prim.Native.Nat.{_+_, _-_, _≤_, _<_};
 ghost use lib.ListN.{length, take, drop};
 ghost use Rattle.script.specs.Syntax.{digits, bounded, number, field, four, asFormat, asBegin, asStep, command, lines};
-ghost use Rattle.script.specs.Printing.{figures, printed, written};
+ghost use Rattle.script.specs.Printing.{figures, printed, Wrote};
 ghost use Rattle.script.specs.Places.{seen, cutAt, Inside};
 
 const NEWLINE: u8 = 10;
@@ -196,4 +196,20 @@ fn next_line(input: &[u8], at: usize) -> Line
         e += 1;
     }
     Line::Torn
+}
+
+// The digits of a number, of which there are at most `most`, at a place. The place after them comes back.
+fn put_figures(out: &mut [u8], at: usize, most: u32, value: u32) -> usize
+    requires { ⌜ at + most ≤ length (now out) ⌝ }
+    ensures { λ r. ⌜ Wrote (now (out .entry)) at (figures most value) r (now (out .exit)) ⌝ }
+{
+    if most == 0 {
+        return at;
+    }
+    let mut next = at;
+    if 10 <= value {
+        next = put_figures(out, at, most - 1, value / 10);
+    }
+    out[next] = ZERO + (value % 10) as u8;
+    next + 1
 }

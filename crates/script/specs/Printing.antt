@@ -20,9 +20,13 @@ abbrev pub decimal : ℕ → List ℕ
 decimal v = figures mostFigures v
 
 abbrev pub printed : ℕ → ℕ → List ℕ
-printed number value = decimal number ++ (BLANK ∷ decimal value ++ (NEWLINE ∷ []))
+printed number value = decimal number ++ (BLANK ∷ (decimal value ++ (NEWLINE ∷ [])))
+
+-- a printed line has at most so many bytes
+abbrev pub mostPrinted : ℕ
+mostPrinted = mostFigures + 1 + mostFigures + 1
 
 -- some bytes were written into a buffer at a place, with all else as it was: where they end, and the buffer after it
 pub record Wrote (before : List ℕ) (at : ℕ) (bs : List ℕ) (end : ℕ) (after : List ℕ) : Type 0 where
   pub ends : end ≡ at + length bs
-  pub holds : after ≡ take at before ++ bs ++ drop (at + length bs) before
+  pub holds : after ≡ take at before ++ (bs ++ drop (at + length bs) before)

@@ -1,9 +1,10 @@
 // The script language on slices: 01, "The script program". What it prints is `output` of specs/Output.antt.
 ghost use mathlib.Core.Path.{_≡_};
+ghost use mathlib.Core.List.{[], _∷_};
 ghost use Prim.Native.Nat.{_+_, _-_, _≤_, _<_};
 ghost use lib.ListN.{length, take, drop};
 ghost use Rattle.script.specs.Syntax.{digits, bounded, number, field, four, asFormat, asBegin, asStep, command, lines};
-ghost use Rattle.script.specs.Printing.{figures, printed, Wrote};
+ghost use Rattle.script.specs.Printing.{figures, mostPrinted, printed, Wrote};
 ghost use Rattle.script.specs.Places.{seen, cutAt, Inside};
 
 const NEWLINE: u8 = 10;
@@ -13,6 +14,9 @@ const NINE: u8 = 57;
 
 // The largest number that a field may have.
 const MOST: u64 = 4294967295;
+
+// A word has at most ten digits.
+const FIGURES: u32 = 10;
 
 // What stands at a place of a line: no number, or a number, and the place after it.
 pub enum Field {
@@ -198,7 +202,16 @@ fn next_line(input: &[u8], at: usize) -> Line
     Line::Torn
 }
 
-// The digits of a number, of which there are at most `most`, at a place. The place after them comes back.
+// Each function that writes puts its bytes at a place, and the place after them comes back.
+fn put_byte(out: &mut [u8], at: usize, b: u8) -> usize
+    requires { ⌜ at < length (now out) ⌝ }
+    ensures { λ r. ⌜ Wrote (now (out .entry)) at (b ∷ []) r (now (out .exit)) ⌝ }
+{
+    out[at] = b;
+    at + 1
+}
+
+// The digits of a number, of which there are at most `most`.
 fn put_figures(out: &mut [u8], at: usize, most: u32, value: u32) -> usize
     requires { ⌜ at + most ≤ length (now out) ⌝ }
     ensures { λ r. ⌜ Wrote (now (out .entry)) at (figures most value) r (now (out .exit)) ⌝ }
@@ -206,10 +219,21 @@ fn put_figures(out: &mut [u8], at: usize, most: u32, value: u32) -> usize
     if most == 0 {
         return at;
     }
-    let mut next = at;
-    if 10 <= value {
-        next = put_figures(out, at, most - 1, value / 10);
+    let last = ZERO + (value % 10) as u8;
+    if value < 10 {
+        return put_byte(out, at, last);
     }
-    out[next] = ZERO + (value % 10) as u8;
-    next + 1
+    let next = put_figures(out, at, most - 1, value / 10);
+    put_byte(out, next, last)
+}
+
+// A number and a value, on a line.
+fn put_reply(out: &mut [u8], at: usize, number: u32, value: u32) -> usize
+    requires { ⌜ at + mostPrinted ≤ length (now out) ⌝ }
+    ensures { λ r. ⌜ Wrote (now (out .entry)) at (printed number value) r (now (out .exit)) ⌝ }
+{
+    let at1 = put_figures(out, at, FIGURES, number);
+    let at2 = put_byte(out, at1, BLANK);
+    let at3 = put_figures(out, at2, FIGURES, value);
+    put_byte(out, at3, NEWLINE)
 }

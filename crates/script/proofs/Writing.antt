@@ -10,7 +10,7 @@ use lib.Dec.{ltb}
 use lib.ListN.{length, take, drop, set, take-append-drop, length-append}
 use lib.Seq.{length-take-le, set-split, take-at, drop-at, drop-drop}
 use Rattle.script.specs.Syntax.{ZERO}
-use Rattle.script.specs.Printing.{figures, Wrote}
+use Rattle.script.specs.Printing.{mostFigures, figures, printed, mostPrinted, Wrote}
 
 -- ---- writing
 
@@ -45,6 +45,7 @@ module _ (b : List ℕ) (at : ℕ) (xs : List ℕ) (fits : at + length xs ≤ le
 -- ---- the digits of a number
 
 pub figures-most : (k v : ℕ) → length (figures k v) ≤ k
+unfolding figures
 figures-most zero v = omega arith
 figures-most (suc k) v = go (ltb v 10) (figures-most k (v / 10))
   where
@@ -55,10 +56,17 @@ figures-most (suc k) v = go (ltb v 10) (figures-most k (v / 10))
     go false h = rw length-append (omega arith)
 
 pub figures-none : (k v : ℕ) → k ≡ 0 → figures k v ≡ []
+unfolding figures
 figures-none zero v h = refl
 figures-none (suc k) v h = absurd (omega arith)
 
 pub figures-some :
     (k v : ℕ) → (k ≡ 0 → ⊥) → figures k v ≡ cond (ltb v 10) [] (figures (k - 1) (v / 10)) ++ ((ZERO + v % 10) ∷ [])
+unfolding figures
 figures-some zero v h = absurd (h refl)
 figures-some (suc k) v h = let e : suc k - 1 ≡ k = omega arith in rw e
+
+-- a printed line is short
+pub printed-most : (number value : ℕ) → length (printed number value) ≤ mostPrinted
+printed-most number value =
+    simp length-append (omega (arith, figures-most mostFigures number, figures-most mostFigures value))

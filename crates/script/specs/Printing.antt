@@ -8,7 +8,7 @@ use lib.Dec.{ltb}
 use Rattle.script.specs.Syntax.{NEWLINE, BLANK, ZERO}
 
 -- the digits of v, of which there are at most so many
-abbrev pub figures : ℕ → ℕ → List ℕ
+unfoldable pub figures : ℕ → ℕ → List ℕ
 figures zero v = []
 figures (suc k) v = cond (ltb v 10) [] (figures k (v / 10)) ++ ((ZERO + v % 10) ∷ [])
 

@@ -1,3 +1,5 @@
 mod Reading
 mod Cutting
 mod Writing
+mod Values
+mod Formats

@@ -1,7 +1,12 @@
 -- What the code's answers mean: it goes by places in a list where the definitions hand on the rest of it.
 use mathlib.Core.List.{List, [], _∷_}
-use Prim.Native.Nat.{ℕ, _+_, _-_, _≤_, _<_}
-use lib.ListN.{take, drop}
+use Prim.Native.Nat.{ℕ, _+_, _-_, _/_, _%_, _≤_, _<_}
+use lib.ListN.{length, take, drop}
+use Rattle.meaning.specs.Limits.{mostThreads, mostNumbers, mostBlocks}
+use Rattle.store.specs.Layout.{size}
+use Rattle.script.specs.declared.Turn.{Turn}
+use Rattle.script.specs.declared.Turn.the-variants as turns
+use Rattle.script.specs.Output.{Heard, stopped, replied}
 use Rattle.script.specs.Syntax.{Read, missing, got, Lines, end, torn, line, lines}
 use Rattle.script.specs.declared.Field.{Field}
 use Rattle.script.specs.declared.Field.the-variants as fields
@@ -24,3 +29,25 @@ abbrev pub Inside : ℕ → ℕ → Line → Type 0
 Inside at size cuts.End = Unit
 Inside at size cuts.Torn = Unit
 Inside at size (cuts.Ending e) = (at ≤ e) × (e < size)
+
+-- ---- the store at the front of a buffer
+
+-- "10,712 at most": the length of an area with all sizes at their limits
+abbrev pub largest : ℕ
+largest = size mostThreads mostNumbers mostBlocks
+
+-- the first so many bytes of a buffer are the store's area; the buffer has room for any
+pub record Held (buffer : List ℕ) (used : ℕ) : Type 0 where
+  pub inside : used ≤ length buffer
+  pub room : largest ≤ length buffer
+
+-- what an answer on a buffer says: number and value are taken apart, and the store's area is the front of the buffer
+abbrev pub turned : List ℕ → Turn → Heard
+turned buffer turns.Stop = stopped
+turned buffer (turns.Reply both used) =
+    replied (record { number = both / 4294967296; value = both % 4294967296; after = take used buffer })
+
+-- the area that is left stands inside a buffer of that length
+abbrev pub Left : ℕ → Turn → Type 0
+Left size turns.Stop = Unit
+Left size (turns.Reply both used) = used ≤ size

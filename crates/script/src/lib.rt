@@ -2,10 +2,13 @@
 ghost use mathlib.Core.Path.{_≡_};
 ghost use mathlib.Core.List.{[], _∷_};
 ghost use Prim.Native.Nat.{_+_, _-_, _≤_, _<_};
+ghost use mathlib.Core.Bool.{cond};
+ghost use lib.Dec.{leb};
+ghost use Rattle.store.specs.Layout.{size};
 ghost use lib.ListN.{length, take, drop};
 ghost use Rattle.script.specs.Syntax.{digits, bounded, number, field, four, asFormat, asBegin, asStep, command, lines};
 ghost use Rattle.script.specs.Printing.{figures, mostPrinted, printed, Wrote};
-ghost use Rattle.script.specs.Places.{seen, cutAt, Inside};
+ghost use Rattle.script.specs.Places.{seen, cutAt, Inside, largest, Held, turned, Left};
 
 const NEWLINE: u8 = 10;
 const BLANK: u8 = 32;
@@ -14,6 +17,9 @@ const NINE: u8 = 57;
 
 // The largest number that a field may have.
 const MOST: u64 = 4294967295;
+
+// The length of the longest area.
+const LARGEST: u64 = 10712;
 
 // A word has at most ten digits.
 const FIGURES: u32 = 10;
@@ -43,6 +49,12 @@ pub enum Line {
     End,
     Torn,
     Ending(usize),
+}
+
+// What comes of a line: the run stops; or number and value of a reply, packed, and how many bytes the store then has.
+pub enum Turn {
+    Stop,
+    Reply(u64, usize),
 }
 
 fn wide(b: u8) -> u64
@@ -236,4 +248,18 @@ fn put_reply(out: &mut [u8], at: usize, number: u32, value: u32) -> usize
     let at2 = put_byte(out, at1, BLANK);
     let at3 = put_figures(out, at2, FIGURES, value);
     put_byte(out, at3, NEWLINE)
+}
+
+// The length of a new store's area, or 0 where that is longer than any area.
+fn wanted(t: u32, n: u32, p: u32) -> usize
+    ensures { λ r. ⌜ r ≡ cond (leb (size t n p) largest) (size t n p) 0 ⌝ }
+{
+    let threads = t as u64;
+    let numbers = n as u64;
+    let blocks = p as u64;
+    let length = 4 * (6 + 7 * threads + numbers + numbers + 4 * blocks);
+    if length <= LARGEST {
+        return length as usize;
+    }
+    0
 }

@@ -5,7 +5,7 @@ use mathlib.Core.Path.{_≡_, refl}
 use mathlib.Core.List.{List}
 use Prim.Native.Nat.{ℕ, _+_, _≤_}
 use native.Mathlib.Omega.{arith}
-use lib.ListN.{length, replicate, length-replicate}
+use lib.ListN.{length, length-replicate}
 use borrow.Author.Tests.{leb-true, eq-eqb, le-leb}
 use lib.Dec.{leb, eqb}
 use Rattle.meaning.specs.Numbers.{WENT, SHAPE, LIMITS}

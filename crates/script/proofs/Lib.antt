@@ -1,5 +1,8 @@
 mod Reading
 mod Cutting
-mod Writing
+pub mod Writing
 mod Values
 mod Formats
+mod Turns
+mod Running
+mod RoundTrip

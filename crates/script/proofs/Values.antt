@@ -1,12 +1,11 @@
 -- The value that a call gives back is a word: the value of begin is 0, and that of step is 0, 1 or a register of an area of bytes. So
 -- number and value can be taken apart again. Assumes nothing.
 use mathlib.Core.Bool.{Bool, true, false, not, cond, _||_}
-use mathlib.Core.Path.{_≡_, refl}
+use mathlib.Core.Path.{_≡_}
 use mathlib.Core.List.{List}
 use Prim.Native.Nat.{ℕ, _+_, _*_, _/_, _%_, _<_}
 use native.Mathlib.Omega.{arith}
 use lib.Dec.{eqb, ltb}
-use lib.ListN.{getD}
 use Rattle.meaning.specs.declared.Answer.{Answer}
 use Rattle.meaning.specs.declared.Answer.the-variants.{Zero, C, Moved}
 use Rattle.meaning.specs.declared.Act.{Act}
@@ -22,18 +21,19 @@ use Rattle.meaning.specs.Store.{Store}
 use Rattle.meaning.specs.Holding.{free, heldBy}
 use Rattle.meaning.specs.Choosing.{lowestFree, toBlock, leastWorn}
 use Rattle.meaning.specs.Programs.{WRITE, LEVEL, actAt}
-use Rattle.meaning.specs.Step.{block, touches, heads, moved, answer, choosing, perform, verdict}
+use Rattle.meaning.specs.Step.{block, touches, heads, moved, answer, choosing, perform}
 use Rattle.meaning.specs.Call.{Outcome, refused, left, reply, check, isIdle, told}
 use Rattle.store.specs.Layout.{tAt, threadsAt, threadWords}
 use Rattle.store.specs.Area.{Bytes, word, decode, wellFormed, encode}
+use Rattle.script.specs.Places.{wordRange}
 use Rattle.store.specs.Calls.{beginArea, stepArea}
 
 -- ---- number and value taken apart
 
-pub packed-number : (n v : ℕ) → v < 4294967296 → packed n v / 4294967296 ≡ n
+pub packed-number : (n v : ℕ) → v < wordRange → packed n v / wordRange ≡ n
 packed-number n v h = omega arith
 
-pub packed-value : (n v : ℕ) → v < 4294967296 → packed n v % 4294967296 ≡ v
+pub packed-value : (n v : ℕ) → v < wordRange → packed n v % wordRange ≡ v
 packed-value n v h = omega arith
 
 -- ---- a step's verdict finishes with a word
@@ -42,20 +42,20 @@ data Small : Verdict → Type 0 where
   blocked : Small Blocked
   fault : Small Fault
   go : {r : _} {e : _} → Small (Go r e)
-  done : {v : ℕ} {e : _} → v < 4294967296 → Small (Done v e)
+  done : {v : ℕ} {e : _} → v < wordRange → Small (Done v e)
 
 small-cond : {v w : Verdict} (b : Bool) → Small v → Small w → Small (cond b v w)
 small-cond true x y = x
 small-cond false x y = y
 
-moved-small : (h : ℕ) → moved h < 4294967296
+moved-small : (h : ℕ) → moved h < wordRange
 moved-small h = pick (free h)
   where
-    pick : (b : Bool) → cond b 0 1 < 4294967296
+    pick : (b : Bool) → cond b 0 1 < wordRange
     pick true = omega arith
     pick false = omega arith
 
-answer-small : (a : Answer) (r : Thread) → r .c < 4294967296 → answer a r < 4294967296
+answer-small : (a : Answer) (r : Thread) → r .c < wordRange → answer a r < wordRange
 answer-small Zero r h = omega arith
 answer-small C r h = h
 answer-small Moved r h = moved-small (r .h)
@@ -64,7 +64,7 @@ choosing-small : (s : Store) (r : Thread) (to from : Found) → Small (choosing 
 choosing-small s r Nobody from = fault
 choosing-small s r (At to) from = go
 
-perform-small : (a : Act) (s : Store) (t : ℕ) (r : Thread) → r .c < 4294967296 → Small (perform a s t r)
+perform-small : (a : Act) (s : Store) (t : ℕ) (r : Thread) → r .c < wordRange → Small (perform a s t r)
 perform-small Nothing s t r h = fault
 perform-small TakeH s t r h = small-cond (free (s .lock)) go blocked
 perform-small ReleaseH s t r h = small-cond (heldBy t (s .lock)) go fault
@@ -100,13 +100,13 @@ perform-small Unmap s t r h = go
 
 data Worth : Outcome → Type 0 where
   nothing : {n : ℕ} → Worth (refused n)
-  value : {n v : ℕ} {s : Store} → v < 4294967296 → Worth (left n v s)
+  value : {n v : ℕ} {s : Store} → v < wordRange → Worth (left n v s)
 
 worth-check : {o : Outcome} (b : Bool) (n : ℕ) → Worth o → Worth (check b n o)
 worth-check true n w = w
 worth-check false n w = nothing
 
-worth-value : (a : List ℕ) {o : Outcome} → Worth o → reply encode a o .value < 4294967296
+worth-value : (a : List ℕ) {o : Outcome} → Worth o → reply encode a o .value < wordRange
 worth-value a nothing = omega arith
 worth-value a (value h) = h
 
@@ -118,7 +118,7 @@ worth-told s t (done h) = value h
 
 -- ---- begin and step
 
-pub begin-value : (a : List ℕ) (t op n c : ℕ) → beginArea a t op n c .value < 4294967296
+pub begin-value : (a : List ℕ) (t op n c : ℕ) → beginArea a t op n c .value < wordRange
 begin-value a t op n c =
     let s = decode a in
     worth-value a
@@ -128,18 +128,18 @@ begin-value a t op n c =
     (worth-check (within WRITE LEVEL op) OPERATION
     (worth-check (eqb op LEVEL || ltb n (s .numbers)) LOGICAL (value {v = 0} (omega arith)))))))
 
-word-small : (a : List ℕ) → Bytes a → (k : ℕ) → word a k < 4294967296
+word-small : (a : List ℕ) → Bytes a → (k : ℕ) → word a k < wordRange
 word-small a bytes k =
     omega (arith, bytes (4 * k), bytes (4 * k + 1), bytes (4 * k + 2), bytes (4 * k + 3))
 
-register-small : (a : List ℕ) → Bytes a → (t : ℕ) → decode a .thread t .c < 4294967296
+register-small : (a : List ℕ) → Bytes a → (t : ℕ) → decode a .thread t .c < wordRange
 register-small a bytes t = pick (ltb t (word a tAt)) (word-small a bytes (threadsAt + 3 + threadWords * t))
   where
-    pick : {w : ℕ} (b : Bool) → w < 4294967296 → cond b w 0 < 4294967296
+    pick : {w : ℕ} (b : Bool) → w < wordRange → cond b w 0 < wordRange
     pick true h = h
     pick false h = omega arith
 
-pub step-value : (a : List ℕ) (t : ℕ) → Bytes a → stepArea a t .value < 4294967296
+pub step-value : (a : List ℕ) (t : ℕ) → Bytes a → stepArea a t .value < wordRange
 step-value a t bytes =
     let s = decode a in
     let r = s .thread t in

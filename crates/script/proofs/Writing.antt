@@ -3,7 +3,7 @@ use mathlib.Core.Bool.{Bool, true, false, cond}
 use mathlib.Core.Path.{_≡_, _∙_, refl, sym, ap}
 use mathlib.Core.List.{List, [], _∷_, _++_, append-assoc}
 use Prim.Native.Nat.{ℕ, zero, suc, _+_, _-_, _≤_, _<_, _/_, _%_}
-use native.Mathlib.Nat.{add-zero, add-assoc}
+use native.Mathlib.Nat.{add-zero}
 use native.Mathlib.Numerals.{add-one}
 use native.Mathlib.Omega.{arith}
 use lib.Dec.{ltb}
@@ -20,6 +20,16 @@ wrote-nothing b at = record { ends = sym (add-zero at); holds = rw (add-zero, ta
 pub wrote-byte : (b : List ℕ) (at v : ℕ) → at < length b → Wrote b at (v ∷ []) (at + 1) (set b at v)
 wrote-byte b at v h = record { ends = refl; holds = rw (add-one) (set-split b at v h) }
 
+-- a contract by `Wrote` leaves no choice
+pub wrote-determined :
+    {b bs b′ b″ : List ℕ} {at e f : ℕ} → Wrote b at bs e b′ → Wrote b at bs f b″ → (e ≡ f) × (b′ ≡ b″)
+wrote-determined one two = (one .ends ∙ sym (two .ends), one .holds ∙ sym (two .holds))
+
+-- what was written ends inside the buffer
+pub wrote-inside : {b bs b′ : List ℕ} {at e : ℕ} → Wrote b at bs e b′ → at ≤ length b → e ≤ length b′
+wrote-inside {b} {bs} {b′} {at} w h =
+    rw (w .ends, w .holds, length-append, length-append, length-take-le at b h) (omega arith)
+
 module _ (b : List ℕ) (at : ℕ) (xs : List ℕ) (fits : at + length xs ≤ length b) where
   -- what was written, with what stands before it
   reaches : length (take at b ++ xs) ≡ at + length xs
@@ -35,7 +45,7 @@ module _ (b : List ℕ) (at : ℕ) (xs : List ℕ) (fits : at + length xs ≤ le
       let long : length p ≡ m = reaches ∙ sym (one .ends) in
       let front : take m b′ ≡ p = rw whole (take-at p (drop m b) m long) in
       let back : drop (m + n) b′ ≡ drop (m + n) b =
-          sym (drop-drop n m b′) ∙ ap (drop n) (rw whole (drop-at p (drop m b) m long)) ∙ drop-drop n m b in
+      sym (drop-drop n m b′) ∙ ap (drop n) (rw whole (drop-at p (drop m b) m long)) ∙ drop-drop n m b in
       let place : m + n ≡ at + length (xs ++ ys) = rw length-append (omega (arith, one .ends)) in
       record {
         ends = two .ends ∙ place;
@@ -44,27 +54,27 @@ module _ (b : List ℕ) (at : ℕ) (xs : List ℕ) (fits : at + length xs ≤ le
 
 -- ---- the digits of a number
 
-pub figures-most : (k v : ℕ) → length (figures k v) ≤ k
-unfolding figures
-figures-most zero v = omega arith
-figures-most (suc k) v = go (ltb v 10) (figures-most k (v / 10))
-  where
-    go :
-        (small : Bool) → length (figures k (v / 10)) ≤ k
-        → length (cond small [] (figures k (v / 10)) ++ ((ZERO + v % 10) ∷ [])) ≤ suc k
-    go true h = omega arith
-    go false h = rw length-append (omega arith)
-
 pub figures-none : (k v : ℕ) → k ≡ 0 → figures k v ≡ []
 unfolding figures
 figures-none zero v h = refl
 figures-none (suc k) v h = absurd (omega arith)
 
+-- the last digit stands after the others
 pub figures-some :
     (k v : ℕ) → (k ≡ 0 → ⊥) → figures k v ≡ cond (ltb v 10) [] (figures (k - 1) (v / 10)) ++ ((ZERO + v % 10) ∷ [])
 unfolding figures
 figures-some zero v h = absurd (h refl)
 figures-some (suc k) v h = let e : suc k - 1 ≡ k = omega arith in rw e
+
+pub figures-most : (k v : ℕ) → length (figures k v) ≤ k
+figures-most zero v = rw (figures-none 0 v refl) (omega arith)
+figures-most (suc k) v =
+    let e : suc k - 1 ≡ k = omega arith in
+    rw (figures-some (suc k) v (λ h. omega arith), e, length-append) (more (ltb v 10) (figures-most k (v / 10)))
+  where
+    more : (small : Bool) → length (figures k (v / 10)) ≤ k → length (cond small [] (figures k (v / 10))) + 1 ≤ suc k
+    more true h = omega arith
+    more false h = omega arith
 
 -- a printed line is short
 pub printed-most : (number value : ℕ) → length (printed number value) ≤ mostPrinted

@@ -1,8 +1,8 @@
 -- 01, "The script program": what is printed for a whole input. The store is the area of the last accepted `f`; before it there is none,
 -- which is the empty area: "Before the first accepted `f`, `b` and `s` give SHAPE" is what begin and step answer on it.
 use mathlib.Core.Bool.{cond}
-use mathlib.Core.List.{List, [], _∷_, _++_}
-use Prim.Native.Nat.{ℕ}
+use mathlib.Core.List.{List, [], _++_}
+use Prim.Native.Nat.{ℕ, _+_, _*_}
 use lib.ListN.{length, replicate}
 use lib.Dec.{eqb, leb}
 use Rattle.meaning.specs.Numbers.{WENT}
@@ -12,7 +12,7 @@ use Rattle.store.specs.Calls.{formatArea, beginArea, stepArea}
 use Rattle.script.specs.declared.Command.{Command}
 use Rattle.script.specs.declared.Command.the-variants.{Bad, Format, Begin, Step}
 use Rattle.script.specs.Syntax.{command, Lines, end, torn, line, lines}
-use Rattle.script.specs.Printing.{printed}
+use Rattle.script.specs.Printing.{printed, mostPrinted}
 
 -- ---- the numbers that only the program gives
 
@@ -52,15 +52,26 @@ heard a (Step t) = replied (stepArea a t)
 -- ---- all lines
 
 -- what is printed for a line, and then for the lines after it, given the area that the line left
-abbrev pub told : Heard → (List ℕ → List ℕ) → List ℕ
-told stopped more = printed FORM 0
-told (replied r) more = printed (r .number) (r .value) ++ more (r .after)
+abbrev pub said : Heard → (List ℕ → List ℕ) → List ℕ
+said stopped more = printed FORM 0
+said (replied r) more = printed (r .number) (r .value) ++ more (r .after)
 
 abbrev pub answers : List ℕ → Lines → List ℕ
 answers a end = []
 answers a torn = printed FORM 0
-answers a (line l ls) = told (heard a (command l)) (λ a′. answers a′ ls)
+answers a (line l ls) = said (heard a (command l)) (λ a′. answers a′ ls)
 
 -- "longer input prints `20 0` only. Empty input prints nothing."
 unfoldable pub output : List ℕ → List ℕ
 output input = cond (leb (length input) mostInput) (answers [] (lines input)) (printed LONG 0)
+
+-- ---- room for it
+
+-- no output is longer: a line that is answered has at least four bytes and prints at most mostPrinted, less than six for each of them;
+-- one line more is printed at most
+abbrev pub mostOutput : ℕ
+mostOutput = 6 * mostInput + mostPrinted
+
+-- what is written where a buffer is lent: nothing if it has no such room
+abbrev pub fitting : List ℕ → List ℕ → List ℕ
+fitting buffer bs = cond (leb mostOutput (length buffer)) bs []

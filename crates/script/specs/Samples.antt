@@ -1,85 +1,87 @@
--- The definitions computed: 01's example, and inputs that are refused. Bytes are written as numbers, a line of the input to a line.
--- Assumes nothing.
+-- The definitions computed: 01's example line by line, and inputs of other kinds. Assumes nothing.
 use mathlib.Core.Path.{_≡_, refl}
-use mathlib.Core.List.{List, [], _∷_, map}
+use mathlib.Core.List.{List, [], _∷_, _++_, map}
 use Prim.Native.Nat.{ℕ}
+use Prim.Native.Char.{code}
+use Prim.Native.String.{String}
+use Prim.Native.String as string
 use Rattle.store.specs.Area.{wellFormed}
+use Rattle.script.specs.Syntax.{NEWLINE, BLANK, ZERO, NINE, LETTER-B, LETTER-F, LETTER-S}
 use Rattle.script.specs.Printing.{figures}
 use Rattle.script.specs.Output.{output}
 
--- 01, "The script program": the example's input
-abbrev exampleInput : List ℕ
-exampleInput =
-    102 ∷ 32 ∷ 50 ∷ 32 ∷ 49 ∷ 32 ∷ 50 ∷ 32 ∷ 49 ∷ 10 ∷ -- f 2 1 2 1
-    98 ∷ 32 ∷ 48 ∷ 32 ∷ 50 ∷ 32 ∷ 48 ∷ 32 ∷ 57 ∷ 10 ∷ -- b 0 2 0 9
-    98 ∷ 32 ∷ 49 ∷ 32 ∷ 50 ∷ 32 ∷ 48 ∷ 32 ∷ 48 ∷ 10 ∷ -- b 1 2 0 0
-    115 ∷ 32 ∷ 48 ∷ 10 ∷ -- s 0
-    115 ∷ 32 ∷ 49 ∷ 10 ∷ -- s 1
-    115 ∷ 32 ∷ 48 ∷ 10 ∷ -- s 0
-    115 ∷ 32 ∷ 48 ∷ 10 ∷ -- s 0
-    115 ∷ 32 ∷ 49 ∷ 10 ∷ -- s 1
-    115 ∷ 32 ∷ 48 ∷ 10 ∷ -- s 0
-    []
+-- the bytes of a text in ASCII
+abbrev bytesOf : String → List ℕ
+bytesOf string.[] = []
+bytesOf (string._∷_ c text) = code c ∷ bytesOf text
 
--- and what is printed
-abbrev exampleOutput : List ℕ
-exampleOutput =
-    48 ∷ 32 ∷ 48 ∷ 10 ∷ -- 0 0
-    48 ∷ 32 ∷ 48 ∷ 10 ∷ -- 0 0
-    48 ∷ 32 ∷ 48 ∷ 10 ∷ -- 0 0
-    48 ∷ 32 ∷ 48 ∷ 10 ∷ -- 0 0
-    50 ∷ 32 ∷ 48 ∷ 10 ∷ -- 2 0
-    48 ∷ 32 ∷ 48 ∷ 10 ∷ -- 0 0
-    49 ∷ 32 ∷ 48 ∷ 10 ∷ -- 1 0
-    48 ∷ 32 ∷ 48 ∷ 10 ∷ -- 0 0
-    49 ∷ 51 ∷ 32 ∷ 48 ∷ 10 ∷ -- 13 0
-    []
+abbrev joined : List String → List ℕ
+joined [] = []
+joined (text ∷ texts) = bytesOf text ++ joined texts
 
-pub example : output exampleInput ≡ exampleOutput
-unfolding wellFormed figures output
-example = refl
+pub named : bytesOf "\n 09bfs" ≡ NEWLINE ∷ BLANK ∷ ZERO ∷ NINE ∷ LETTER-B ∷ LETTER-F ∷ LETTER-S ∷ []
+named = refl
 
+-- an input, and what is printed for it
 pub record Sample : Type 0 where
-  pub input : List ℕ
-  pub prints : List ℕ
+  pub input : String
+  pub prints : String
 
--- each with its input in quotes
-abbrev samples : List Sample
-samples =
-    -- empty input prints nothing: ""
-    (record { input = []; prints = [] }) ∷
-    -- before the first `f`: "s 0\n"
-    (record { input = 115 ∷ 32 ∷ 48 ∷ 10 ∷ []; prints = 49 ∷ 48 ∷ 32 ∷ 48 ∷ 10 ∷ [] }) ∷
-    -- the largest number: "b 4294967295 0 0 0\n"
-    (record { input = 98 ∷ 32 ∷ 52 ∷ 50 ∷ 57 ∷ 52 ∷ 57 ∷ 54 ∷ 55 ∷ 50 ∷ 57 ∷ 53 ∷ 32 ∷ 48 ∷ 32 ∷ 48 ∷ 32 ∷ 48 ∷ 10 ∷ []; prints = 49 ∷ 48 ∷ 32 ∷ 48 ∷ 10 ∷ [] }) ∷
-    -- one more than the largest number: "s 4294967296\n"
-    (record { input = 115 ∷ 32 ∷ 52 ∷ 50 ∷ 57 ∷ 52 ∷ 57 ∷ 54 ∷ 55 ∷ 50 ∷ 57 ∷ 54 ∷ 10 ∷ []; prints = 49 ∷ 57 ∷ 32 ∷ 48 ∷ 10 ∷ [] }) ∷
-    -- a leading zero: "s 00\n"
-    (record { input = 115 ∷ 32 ∷ 48 ∷ 48 ∷ 10 ∷ []; prints = 49 ∷ 57 ∷ 32 ∷ 48 ∷ 10 ∷ [] }) ∷
-    -- two blanks: "s  0\n"
-    (record { input = 115 ∷ 32 ∷ 32 ∷ 48 ∷ 10 ∷ []; prints = 49 ∷ 57 ∷ 32 ∷ 48 ∷ 10 ∷ [] }) ∷
-    -- a blank at the end: "s 0 \n"
-    (record { input = 115 ∷ 32 ∷ 48 ∷ 32 ∷ 10 ∷ []; prints = 49 ∷ 57 ∷ 32 ∷ 48 ∷ 10 ∷ [] }) ∷
-    -- a blank at the front: " s 0\n"
-    (record { input = 32 ∷ 115 ∷ 32 ∷ 48 ∷ 10 ∷ []; prints = 49 ∷ 57 ∷ 32 ∷ 48 ∷ 10 ∷ [] }) ∷
-    -- a field too few: "s\n"
-    (record { input = 115 ∷ 10 ∷ []; prints = 49 ∷ 57 ∷ 32 ∷ 48 ∷ 10 ∷ [] }) ∷
-    -- a field too many: "s 0 0\n"
-    (record { input = 115 ∷ 32 ∷ 48 ∷ 32 ∷ 48 ∷ 10 ∷ []; prints = 49 ∷ 57 ∷ 32 ∷ 48 ∷ 10 ∷ [] }) ∷
-    -- another letter: "x 0\n"
-    (record { input = 120 ∷ 32 ∷ 48 ∷ 10 ∷ []; prints = 49 ∷ 57 ∷ 32 ∷ 48 ∷ 10 ∷ [] }) ∷
-    -- an empty line: "\n"
-    (record { input = 10 ∷ []; prints = 49 ∷ 57 ∷ 32 ∷ 48 ∷ 10 ∷ [] }) ∷
-    -- an end without newline: "s 0\ns 0"
-    (record { input = 115 ∷ 32 ∷ 48 ∷ 10 ∷ 115 ∷ 32 ∷ 48 ∷ []; prints = 49 ∷ 48 ∷ 32 ∷ 48 ∷ 10 ∷ 49 ∷ 57 ∷ 32 ∷ 48 ∷ 10 ∷ [] }) ∷
-    -- nothing is printed after a line of another form: "s\ns 0\n"
-    (record { input = 115 ∷ 10 ∷ 115 ∷ 32 ∷ 48 ∷ 10 ∷ []; prints = 49 ∷ 57 ∷ 32 ∷ 48 ∷ 10 ∷ [] }) ∷
-    -- a refused `f` leaves the earlier store: "f 2 1 2 1\nf 17 1 2 1\ns 0\n"
-    (record { input = 102 ∷ 32 ∷ 50 ∷ 32 ∷ 49 ∷ 32 ∷ 50 ∷ 32 ∷ 49 ∷ 10 ∷ 102 ∷ 32 ∷ 49 ∷ 55 ∷ 32 ∷ 49 ∷ 32 ∷ 50 ∷ 32 ∷ 49 ∷ 10 ∷ 115 ∷ 32 ∷ 48 ∷ 10 ∷ []; prints = 48 ∷ 32 ∷ 48 ∷ 10 ∷ 49 ∷ 55 ∷ 32 ∷ 48 ∷ 10 ∷ 49 ∷ 51 ∷ 32 ∷ 48 ∷ 10 ∷ [] }) ∷
-    -- the largest sizes: "f 4294967295 4294967295 4294967295 4294967295\n"
-    (record { input = 102 ∷ 32 ∷ 52 ∷ 50 ∷ 57 ∷ 52 ∷ 57 ∷ 54 ∷ 55 ∷ 50 ∷ 57 ∷ 53 ∷ 32 ∷ 52 ∷ 50 ∷ 57 ∷ 52 ∷ 57 ∷ 54 ∷ 55 ∷ 50 ∷ 57 ∷ 53 ∷ 32 ∷ 52 ∷ 50 ∷ 57 ∷ 52 ∷ 57 ∷ 54 ∷ 55 ∷ 50 ∷ 57 ∷ 53 ∷ 32 ∷ 52 ∷ 50 ∷ 57 ∷ 52 ∷ 57 ∷ 54 ∷ 55 ∷ 50 ∷ 57 ∷ 53 ∷ 10 ∷ []; prints = 49 ∷ 55 ∷ 32 ∷ 48 ∷ 10 ∷ [] }) ∷
+-- 01, "The script program": each line, and at its right what is printed
+abbrev example : List Sample
+example =
+    (record { input = "f 2 1 2 1\n"; prints = "0 0\n" }) ∷
+    (record { input = "b 0 2 0 9\n"; prints = "0 0\n" }) ∷
+    (record { input = "b 1 2 0 0\n"; prints = "0 0\n" }) ∷
+    (record { input = "s 0\n"; prints = "0 0\n" }) ∷
+    (record { input = "s 1\n"; prints = "2 0\n" }) ∷
+    (record { input = "s 0\n"; prints = "0 0\n" }) ∷
+    (record { input = "s 0\n"; prints = "1 0\n" }) ∷
+    (record { input = "s 1\n"; prints = "0 0\n" }) ∷
+    (record { input = "s 0\n"; prints = "13 0\n" }) ∷
     []
 
-pub refused : map (λ s. output (s .input)) samples ≡ map (λ s. s .prints) samples
+pub example-prints : output (joined (map (λ s. s .input) example)) ≡ joined (map (λ s. s .prints) example)
 unfolding wellFormed figures output
-refused = refl
+example-prints = refl
+
+-- each an input of its own
+abbrev others : List Sample
+others =
+    -- empty input prints nothing
+    (record { input = ""; prints = "" }) ∷
+    -- before the first `f`
+    (record { input = "s 0\n"; prints = "10 0\n" }) ∷
+    -- the largest number
+    (record { input = "b 4294967295 0 0 0\n"; prints = "10 0\n" }) ∷
+    -- one more than the largest number
+    (record { input = "s 4294967296\n"; prints = "19 0\n" }) ∷
+    -- a leading zero
+    (record { input = "s 00\n"; prints = "19 0\n" }) ∷
+    -- two blanks
+    (record { input = "s  0\n"; prints = "19 0\n" }) ∷
+    -- a blank at the end
+    (record { input = "s 0 \n"; prints = "19 0\n" }) ∷
+    -- a blank at the front
+    (record { input = " s 0\n"; prints = "19 0\n" }) ∷
+    -- a field too few
+    (record { input = "s\n"; prints = "19 0\n" }) ∷
+    -- a field too many
+    (record { input = "s 0 0\n"; prints = "19 0\n" }) ∷
+    -- another letter
+    (record { input = "x 0\n"; prints = "19 0\n" }) ∷
+    -- an empty line
+    (record { input = "\n"; prints = "19 0\n" }) ∷
+    -- an end without newline
+    (record { input = "s 0\ns 0"; prints = "10 0\n19 0\n" }) ∷
+    -- nothing is printed after a line of another form
+    (record { input = "s\ns 0\n"; prints = "19 0\n" }) ∷
+    -- a refused `f` leaves the earlier store
+    (record { input = "f 2 1 2 1\nf 17 1 2 1\ns 0\n"; prints = "0 0\n17 0\n13 0\n" }) ∷
+    -- the largest sizes
+    (record { input = "f 4294967295 4294967295 4294967295 4294967295\n"; prints = "17 0\n" }) ∷
+    []
+
+pub others-print : map (λ s. output (bytesOf (s .input))) others ≡ map (λ s. bytesOf (s .prints)) others
+unfolding wellFormed figures output
+others-print = refl

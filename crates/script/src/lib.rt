@@ -1,28 +1,34 @@
-// The script language on slices: 01, "The script program". What it prints is `output` of specs/Output.antt.
+// The script language on slices: 01, "The script program". A line is read into a command, and a reply is printed. What is printed for a
+// whole input is `output` of specs/Output.antt.
 ghost use mathlib.Core.Path.{_≡_};
-ghost use mathlib.Core.List.{[], _∷_};
-ghost use Prim.Native.Nat.{_+_, _-_, _≤_, _<_};
 ghost use mathlib.Core.Bool.{cond};
+ghost use mathlib.Core.List.{[], _∷_};
+ghost use Prim.Native.Nat.{_+_, _≤_, _<_};
 ghost use lib.Dec.{leb};
+ghost use lib.ListN.{length, drop};
 ghost use Rattle.store.specs.Layout.{size};
-ghost use lib.ListN.{length, take, drop};
 ghost use Rattle.script.specs.Syntax.{digits, bounded, number, field, four, asFormat, asBegin, asStep, command, lines};
 ghost use Rattle.script.specs.Printing.{figures, mostPrinted, printed, Wrote};
-ghost use Rattle.script.specs.Places.{seen, cutAt, Inside, largest, Held, turned, Left};
+ghost use Rattle.script.specs.Places.{seen, cutAt, Inside, largest};
+
+// ---- the language
 
 const NEWLINE: u8 = 10;
+
 const BLANK: u8 = 32;
+
 const ZERO: u8 = 48;
+
 const NINE: u8 = 57;
 
 // The largest number that a field may have.
 const MOST: u64 = 4294967295;
 
-// The length of the longest area.
-const LARGEST: u64 = 10712;
-
 // A word has at most ten digits.
 const FIGURES: u32 = 10;
+
+// The length of the longest area, with all sizes at their limits.
+const LARGEST: usize = 10712;
 
 // What stands at a place of a line: no number, or a number, and the place after it.
 pub enum Field {
@@ -56,6 +62,8 @@ pub enum Turn {
     Stop,
     Reply(u64, usize),
 }
+
+// ---- reading
 
 fn wide(b: u8) -> u64
     ensures { λ r. ⌜ r ≡ b ⌝ }
@@ -201,9 +209,6 @@ fn next_line(input: &[u8], at: usize) -> Line
     ensures { λ r. ⌜ cutAt (now (input .entry)) at r ≡ lines (drop at (now (input .entry))) ⌝ }
     ensures { λ r. ⌜ Inside at (length (now (input .entry))) r ⌝ }
 {
-    if input.len() <= at {
-        return Line::End;
-    }
     let mut e = at;
     while e < input.len() {
         if input[e] == NEWLINE {
@@ -211,8 +216,10 @@ fn next_line(input: &[u8], at: usize) -> Line
         }
         e += 1;
     }
-    Line::Torn
+    if at < e { Line::Torn } else { Line::End }
 }
+
+// ---- printing
 
 // Each function that writes puts its bytes at a place, and the place after them comes back.
 fn put_byte(out: &mut [u8], at: usize, b: u8) -> usize
@@ -250,6 +257,8 @@ fn put_reply(out: &mut [u8], at: usize, number: u32, value: u32) -> usize
     put_byte(out, at3, NEWLINE)
 }
 
+// ---- the calls
+
 // The length of a new store's area, or 0 where that is longer than any area.
 fn wanted(t: u32, n: u32, p: u32) -> usize
     ensures { λ r. ⌜ r ≡ cond (leb (size t n p) largest) (size t n p) 0 ⌝ }
@@ -258,7 +267,7 @@ fn wanted(t: u32, n: u32, p: u32) -> usize
     let numbers = n as u64;
     let blocks = p as u64;
     let length = 4 * (6 + 7 * threads + numbers + numbers + 4 * blocks);
-    if length <= LARGEST {
+    if length <= LARGEST as u64 {
         return length as usize;
     }
     0

@@ -68,3 +68,15 @@ module _ (a : List ℕ) (t n p d : ℕ) where
           let exact : length a ≡ size t n p = rw (le-leb _ _ (limits-size t n p d e)) at long in
           rw (e, eq-eqb _ _ exact, eq-eqb _ _ (length-replicate {A = ℕ} (size t n p) 0))
       each false e = rw e
+
+-- so the format of a new store is refused for its numbers alone, and never for the length of the area
+pub format-new-limits :
+    (old : List ℕ) (t n p d : ℕ)
+    → formatNew old t n p d ≡ reply encode old (check (inLimits t n p d) LIMITS (left WENT 0 (fresh t n p d)))
+format-new-limits old t n p d = each (inLimits t n p d) refl
+  where
+    each :
+        (allowed : Bool) → inLimits t n p d ≡ allowed
+        → formatNew old t n p d ≡ reply encode old (check (inLimits t n p d) LIMITS (left WENT 0 (fresh t n p d)))
+    each true e = rw (e, eq-eqb _ _ (length-replicate {A = ℕ} (size t n p) 0))
+    each false e = rw e

@@ -5,7 +5,10 @@ use Prim.Native.Nat.{ℕ}
 use Prim.Native.Char.{code}
 use Prim.Native.String.{String}
 use Prim.Native.String as string
+use Rattle.meaning.specs.Numbers.{SHAPE}
+use Rattle.meaning.specs.Call.{Entry}
 use Rattle.store.specs.Area.{wellFormed}
+use Rattle.store.specs.Calls.{callArea}
 use Rattle.script.specs.Syntax.{NEWLINE, BLANK, ZERO, NINE, LETTER-B, LETTER-F, LETTER-S}
 use Rattle.script.specs.Printing.{figures}
 use Rattle.script.specs.Output.{output}
@@ -85,3 +88,8 @@ others =
 pub others-print : map (λ s. output (bytesOf (s .input))) others ≡ map (λ s. bytesOf (s .prints)) others
 unfolding wellFormed figures output
 others-print = refl
+
+-- "Before the first accepted `f`, `b` and `s` give SHAPE": there is no store, and there is none after them
+pub no-store : (e : Entry) → callArea [] e ≡ record { number = SHAPE; value = 0; after = [] }
+unfolding wellFormed
+no-store e = refl

@@ -31,19 +31,19 @@ const FIGURES: u32 = 10;
 const LARGEST: usize = 10712;
 
 // What stands at a place of a line: no number, or a number, and the place after it.
-pub enum Field {
+enum Field {
     Missing,
     Read(u32, usize),
 }
 
 // The rest of a line: four fields, or anything else.
-pub enum Four {
+enum Four {
     Fewer,
     All(u32, u32, u32, u32),
 }
 
 // A line: `f T N P D`, `b t op n c`, `s t`, or of another form.
-pub enum Command {
+enum Command {
     Bad,
     Format(u32, u32, u32, u32),
     Begin(u32, u32, u32, u32),
@@ -51,14 +51,14 @@ pub enum Command {
 }
 
 // What stands at a place of an input: nothing; bytes with no newline after them; or a line, and the place of its newline.
-pub enum Line {
+enum Line {
     End,
     Torn,
     Ending(usize),
 }
 
 // What comes of a line: the run stops; or number and value of a reply, packed, and how many bytes the store then has.
-pub enum Turn {
+enum Turn {
     Stop,
     Reply(u64, usize),
 }

@@ -1,15 +1,17 @@
-// The script language on slices: 01, "The script program". A line is read into a command, and a reply is printed. What is printed for a
-// whole input is `output` of specs/Output.antt.
+// The script language on slices: 01, "The script program". A line is read into a command, the command is put to the store, and the reply is
+// printed. `run` does that for a whole input; what it prints is `output` of specs/Output.antt.
 ghost use mathlib.Core.Path.{_≡_};
 ghost use mathlib.Core.Bool.{cond};
 ghost use mathlib.Core.List.{[], _∷_};
 ghost use Prim.Native.Nat.{_+_, _≤_, _<_};
 ghost use lib.Dec.{leb};
-ghost use lib.ListN.{length, drop};
+ghost use lib.ListN.{length, take, drop};
 ghost use Rattle.store.specs.Layout.{size};
+ghost use Rattle.store.specs.Calls.{beginArea, stepArea};
 ghost use Rattle.script.specs.Syntax.{digits, bounded, number, field, four, asFormat, asBegin, asStep, command, lines};
 ghost use Rattle.script.specs.Printing.{figures, mostPrinted, printed, Wrote};
-ghost use Rattle.script.specs.Places.{seen, cutAt, Inside, largest};
+ghost use Rattle.script.specs.Output.{replied, formatNew, heard, answers, output, fitting};
+ghost use Rattle.script.specs.Places.{seen, cutAt, Inside, largest, Held, turned, Left, Ready};
 
 // ---- the language
 
@@ -27,8 +29,23 @@ const MOST: u64 = 4294967295;
 // A word has at most ten digits.
 const FIGURES: u32 = 10;
 
+// The number for a line of another form, and for an end without newline.
+const FORM: u32 = 19;
+
+// The number for longer input.
+const LONG: u32 = 20;
+
+// The most bytes of input.
+pub const MOST_INPUT: usize = 65536;
+
+// Room for any output: six bytes for each byte of input, and one line more (`mostOutput`).
+pub const ROOM: usize = 393238;
+
 // The length of the longest area, with all sizes at their limits.
 const LARGEST: usize = 10712;
+
+// Number and value come back together as number times this plus value.
+const PACK: u64 = 4294967296;
 
 // What stands at a place of a line: no number, or a number, and the place after it.
 enum Field {
@@ -271,4 +288,95 @@ fn wanted(t: u32, n: u32, p: u32) -> usize
         return length as usize;
     }
     0
+}
+
+// In each the store is the first `used` bytes of a buffer that has room for the longest.
+fn obey_format(area: &mut [u8], used: usize, t: u32, n: u32, p: u32, d: u32) -> Turn
+    requires { ⌜ Held (now area) used ⌝ }
+    ensures { λ r. ⌜ turned (now (area .exit)) r ≡ replied (formatNew (take used (now (area .entry))) t n p d) ⌝ }
+    ensures { λ r. ⌜ Left (length (now (area .entry))) r ⌝ }
+{
+    let length = wanted(t, n, p);
+    let both = door::format(&mut area[..length], t, n, p, d);
+    if both == 0 {
+        return Turn::Reply(both, length);
+    }
+    Turn::Reply(both, used)
+}
+
+fn obey_begin(area: &mut [u8], used: usize, t: u32, op: u32, n: u32, c: u32) -> Turn
+    requires { ⌜ Held (now area) used ⌝ }
+    ensures { λ r. ⌜ turned (now (area .exit)) r ≡ replied (beginArea (take used (now (area .entry))) t op n c) ⌝ }
+    ensures { λ r. ⌜ Left (length (now (area .entry))) r ⌝ }
+{
+    let both = door::begin(&mut area[..used], t, op, n, c);
+    Turn::Reply(both, used)
+}
+
+fn obey_step(area: &mut [u8], used: usize, t: u32) -> Turn
+    requires { ⌜ Held (now area) used ⌝ }
+    ensures { λ r. ⌜ turned (now (area .exit)) r ≡ replied (stepArea (take used (now (area .entry))) t) ⌝ }
+    ensures { λ r. ⌜ Left (length (now (area .entry))) r ⌝ }
+{
+    let both = door::step(&mut area[..used], t);
+    Turn::Reply(both, used)
+}
+
+fn obey(area: &mut [u8], used: usize, command: Command) -> Turn
+    requires { ⌜ Held (now area) used ⌝ }
+    ensures { λ r. ⌜ turned (now (area .exit)) r ≡ heard (take used (now (area .entry))) command ⌝ }
+    ensures { λ r. ⌜ Left (length (now (area .entry))) r ⌝ }
+{
+    match command {
+        Command::Bad => Turn::Stop,
+        Command::Format(t, n, p, d) => obey_format(area, used, t, n, p, d),
+        Command::Begin(t, op, n, c) => obey_begin(area, used, t, op, n, c),
+        Command::Step(t) => obey_step(area, used, t),
+    }
+}
+
+// ---- the run
+
+// Line after line, with no store at first.
+fn run_lines(input: &[u8], area: &mut [u8], out: &mut [u8]) -> usize
+    requires { ⌜ Ready (now input) (now area) (now out) ⌝ }
+    ensures { λ r. ⌜ Wrote (now (out .entry)) 0 (answers [] (lines (now (input .entry)))) r (now (out .exit)) ⌝ }
+{
+    let mut at: usize = 0;
+    let mut used: usize = 0;
+    let mut end: usize = 0;
+    loop {
+        let found = next_line(input, at);
+        match found {
+            Line::End => {
+                return end;
+            }
+            Line::Torn => {
+                return put_reply(out, end, FORM, 0);
+            }
+            Line::Ending(e) => {
+                let command = read_command(&input[at..e]);
+                let Turn::Reply(both, kept) = obey(area, used, command) else {
+                    return put_reply(out, end, FORM, 0);
+                };
+                end = put_reply(out, end, (both / PACK) as u32, (both % PACK) as u32);
+                used = kept;
+                at = e + 1;
+            }
+        }
+    }
+}
+
+// What is printed for a whole input, at the start of `out`; its length comes back. Where `out` has no room for any output, nothing is.
+pub fn run(input: &[u8], out: &mut [u8]) -> usize
+    ensures { λ r. ⌜ Wrote (now (out .entry)) 0 (fitting (now (out .entry)) (output (now (input .entry)))) r (now (out .exit)) ⌝ }
+{
+    if out.len() < ROOM {
+        return 0;
+    }
+    if MOST_INPUT < input.len() {
+        return put_reply(out, 0, LONG, 0);
+    }
+    let mut area = [0u8; LARGEST];
+    run_lines(input, &mut area, out)
 }

@@ -14,13 +14,18 @@
 #include "layout.h"
 #include "plain.h"
 
+/* The words are copied as they stand in the area, which suits only this order of bytes. */
+#if __BYTE_ORDER__ != __ORDER_LITTLE_ENDIAN__
+#error "filled.c is for little-endian machines"
+#endif
+
 /* Document 01's store at full size: 2,674 words. */
 typedef struct {
     uint32_t header_lock, headers_owner;
     uint32_t records[THREAD_WORDS * KERNELSUN_THREADS_MOST];
     uint32_t map[KERNELSUN_LOGICAL_MOST];
     uint32_t locks[KERNELSUN_LOGICAL_MOST];
-    uint32_t blocks[BLOCK_WORDS][KERNELSUN_PHYSICAL_MOST];
+    uint32_t blocks[BLOCK_WORDS * KERNELSUN_PHYSICAL_MOST];
 } store;
 
 /* ---- Where words stand: in the store, and at the same time in the area ---- */
@@ -81,7 +86,7 @@ static inline place lock_place(const machine *m, uint32_t n)
 
 static inline place block_place(const machine *m, uint32_t p, size_t field)
 {
-    return both(m, &m->held->blocks[field][p], block_word(&m->s, p, field));
+    return both(m, &m->held->blocks[(size_t)BLOCK_WORDS * p + field], block_word(&m->s, p, field));
 }
 
 #include "lines.h"
@@ -90,18 +95,7 @@ static inline place block_place(const machine *m, uint32_t p, size_t field)
 
 static inline void load_words(uint32_t *to, const uint8_t *area, size_t from, size_t count)
 {
-    for (size_t i = 0; i < count; i++) {
-        to[i] = word_get(area, from + i);
-    }
-}
-
-static inline void load_blocks(store *to, const uint8_t *area, const sizes *s)
-{
-    for (uint32_t p = 0; p < s->p; p++) {
-        for (size_t field = 0; field < BLOCK_WORDS; field++) {
-            to->blocks[field][p] = word_get(area, block_word(s, p, field));
-        }
-    }
+    memcpy(to, area + BYTES_IN_WORD * from, BYTES_IN_WORD * count);
 }
 
 static inline void load(store *to, const uint8_t *area, const sizes *s)
@@ -111,7 +105,7 @@ static inline void load(store *to, const uint8_t *area, const sizes *s)
     load_words(to->records, area, thread_word(0, 0), (size_t)THREAD_WORDS * s->t);
     load_words(to->map, area, map_word(s, 0), s->n);
     load_words(to->locks, area, lock_word(s, 0), s->n);
-    load_blocks(to, area, s);
+    load_words(to->blocks, area, block_word(s, 0, 0), (size_t)BLOCK_WORDS * s->p);
 }
 
 uint64_t filled_step(uint8_t *area, size_t len, uint32_t thread)

@@ -215,8 +215,11 @@ typedef struct {
 #define LESS_THAN_ANY_WEAR ((int64_t)-1)
 #define MORE_THAN_ANY_WEAR ((int64_t)WORD_MOST + 1)
 
-/* Both searches in one pass. Lower numbers come first and keep their place on ties. */
-static inline void search_from_and_to(const machine *m, found *from, found *to)
+/*
+ * Both searches in one pass. Lower numbers come first and keep their place on
+ * ties. Apart from the switch around it, the loop has all its words in registers.
+ */
+__attribute__((noinline)) static void search_from_and_to(const machine *m, found *from, found *to)
 {
     found least = {m->s.p, MORE_THAN_ANY_WEAR}, most = {m->s.p, LESS_THAN_ANY_WEAR};
     for (uint32_t p = 0, count = m->s.p; p < count; p++) {

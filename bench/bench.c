@@ -61,7 +61,7 @@ typedef struct work work;
 
 struct work {
     const char *name;
-    tally (*run)(const work *w, step_call *step, uint8_t *area);
+    tally (*run)(const work *w, step_call *call, uint8_t *area);
     sizes s;
     size_t len;
     uint8_t start[KERNELSUN_LENGTH_MOST]; /* what each run starts from */
@@ -76,7 +76,7 @@ static void open_operation(uint8_t *area, uint32_t thread, const operation *o)
     word_put(area, thread_word(thread, THREAD_C), o->c);
 }
 
-static tally run_mix(const work *w, step_call *step, uint8_t *area)
+static tally run_mix(const work *w, step_call *call, uint8_t *area)
 {
     tally done = {0, 0};
     for (size_t k = 0; k < OPERATIONS_A_RUN; k++) {
@@ -84,7 +84,7 @@ static tally run_mix(const work *w, step_call *step, uint8_t *area)
         uint64_t r;
         open_operation(area, thread, &w->mix[k]);
         do {
-            r = step(area, w->len, thread);
+            r = call(area, w->len, thread);
             done.calls++;
             done.sum += r;
         } while (kernelsun_number(r) == KERNELSUN_WENT);
@@ -92,22 +92,22 @@ static tally run_mix(const work *w, step_call *step, uint8_t *area)
     return done;
 }
 
-static tally run_same_step(const work *w, step_call *step, uint8_t *area)
+static tally run_same_step(const work *w, step_call *call, uint8_t *area)
 {
     tally done = {CALLS_A_RUN, 0};
     for (size_t k = 0; k < CALLS_A_RUN; k++) {
-        done.sum += step(area, w->len, 0);
+        done.sum += call(area, w->len, 0);
     }
     return done;
 }
 
 /* The line is put back before each call; a step at L3 changes nothing else that it looks at. */
-static tally run_choosing(const work *w, step_call *step, uint8_t *area)
+static tally run_choosing(const work *w, step_call *call, uint8_t *area)
 {
     tally done = {CALLS_A_RUN, 0};
     for (size_t k = 0; k < CALLS_A_RUN; k++) {
         word_put(area, thread_word(0, THREAD_LINE), LINE_OF_CHOOSING);
-        done.sum += step(area, w->len, 0);
+        done.sum += call(area, w->len, 0);
     }
     return done;
 }
@@ -232,11 +232,11 @@ static int by_size(const void *a, const void *b)
 }
 
 /* One run of a version. The area is the same for all, so that its place in memory is too. */
-static tally timed(const work *w, step_call *step, uint8_t *area, double *ns)
+static tally timed(const work *w, step_call *call, uint8_t *area, double *ns)
 {
     memcpy(area, w->start, w->len);
     double start = now_in_ns();
-    tally done = w->run(w, step, area);
+    tally done = w->run(w, call, area);
     *ns = (now_in_ns() - start) / (double)done.calls;
     return done;
 }
@@ -306,8 +306,8 @@ static void print_row(const work *w, const figure *f, int rank)
     char t_n_p[TEXT_MOST];
     snprintf(t_n_p, sizeof t_n_p, "%u, %u, %u", (unsigned)w->s.t, (unsigned)w->s.n,
              (unsigned)w->s.p);
-    printf("| %-22s | %-12s | %6u | %8.1f | %8.1f | %8.1f | %10.2f | %11.2f |\n", w->name, t_n_p,
-           (unsigned)w->len, door, plain, filled, door / plain, door / filled);
+    printf("| %-22s | %-12s | %6u | %8.1f | %8.1f | %8.1f | %10.2f | %11.2f |\n", w->name,
+           t_n_p, (unsigned)w->len, door, plain, filled, door / plain, door / filled);
 }
 
 /* As a table that also a Markdown page takes. */

@@ -2,10 +2,11 @@
  * The shape of an area, the three calls and their refusals, straight on the
  * bytes. The lines themselves are in lines.h.
  *
- * The test of the shape is most of a step in a large area. Its loops leave at
- * the first word that is out of bounds: gcc at -O2 doesn't vectorise loops
- * whose length it doesn't know, and without that the branches, always
- * foreseen, cost less than the sums that would replace them.
+ * The test of the shape is most of a step in a large area, and its loop has two
+ * forms. gcc at -O2 doesn't vectorise a loop whose length it doesn't know;
+ * there it is fastest to leave at the first word that is out of bounds, by
+ * branches that are always foreseen. At -O3 it vectorises, but only a loop that
+ * doesn't leave early: plain_o3.c asks for that.
  */
 #include "plain.h"
 
@@ -13,6 +14,10 @@
 
 #include "kernelsun.h"
 #include "layout.h"
+
+#ifndef PLAIN_LEAVES_EARLY
+#define PLAIN_LEAVES_EARLY 1
+#endif
 
 /* ---- Where words stand: in the area and nowhere else ---- */
 
@@ -119,28 +124,34 @@ static inline int records_well_formed(const uint8_t *area, const sizes *s)
     return 1;
 }
 
+/* Two columns of a table, each word at most its bound, `stride` words from row to row. */
+static inline int columns_well_formed(const uint8_t *first, uint32_t first_most,
+                                      const uint8_t *second, uint32_t second_most, size_t stride,
+                                      uint32_t count)
+{
+    int good = 1;
+    for (uint32_t i = 0; i < count; i++) {
+        uint32_t x = word_get(first, stride * i), y = word_get(second, stride * i);
+        if (PLAIN_LEAVES_EARLY && (x > first_most || y > second_most)) {
+            return 0;
+        }
+        good &= (x <= first_most) & (y <= second_most);
+    }
+    return good;
+}
+
 static inline int map_and_locks_well_formed(const uint8_t *area, const sizes *s)
 {
     const uint8_t *map = area + BYTES_IN_WORD * map_word(s, 0);
     const uint8_t *locks = area + BYTES_IN_WORD * lock_word(s, 0);
-    for (uint32_t n = 0; n < s->n; n++) {
-        if (word_get(map, n) > s->p || word_get(locks, n) > s->t) {
-            return 0;
-        }
-    }
-    return 1;
+    return columns_well_formed(map, s->p, locks, s->t, 1, s->n);
 }
 
 static inline int blocks_well_formed(const uint8_t *area, const sizes *s)
 {
-    const uint8_t *block = area + BYTES_IN_WORD * block_word(s, 0, 0);
-    const uint8_t *end = area + BYTES_IN_WORD * block_word(s, s->p, 0);
-    for (; block < end; block += BYTES_IN_WORD * BLOCK_WORDS) {
-        if (word_get(block, BLOCK_HEADER) > s->n || word_get(block, BLOCK_OWNER) > s->t) {
-            return 0;
-        }
-    }
-    return 1;
+    const uint8_t *headers = area + BYTES_IN_WORD * block_word(s, 0, BLOCK_HEADER);
+    const uint8_t *owners = area + BYTES_IN_WORD * block_word(s, 0, BLOCK_OWNER);
+    return columns_well_formed(headers, s->n, owners, s->t, BLOCK_WORDS, s->p);
 }
 
 static inline int well_formed(const uint8_t *area, size_t len)

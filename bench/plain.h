@@ -16,6 +16,9 @@ uint64_t plain_begin(uint8_t *area, size_t len, uint32_t thread, uint32_t op, ui
                      uint32_t c);
 uint64_t plain_step(uint8_t *area, size_t len, uint32_t thread);
 
+/* The same step, built at -O3 (plain_o3.c). */
+uint64_t plain_o3_step(uint8_t *area, size_t len, uint32_t thread);
+
 /* SHAPE, THREAD, IDLE, or WENT where the thread's line is to be looked at. */
 uint32_t plain_step_refusal(const uint8_t *area, size_t len, uint32_t thread);
 

@@ -10,8 +10,8 @@
 #include "kernelsun.h"
 #include "layout.h"
 
-/* Near to one another, so that levelling finds something to move in most cases. */
-enum { MIX_DISTANCE = 2 };
+/* The least, so that levelling has something to move as often as can be. */
+enum { MIX_DISTANCE = 1 };
 
 /* The year of Herlihy and Wing; any number would do. */
 enum { MIX_SEED = 1990 };

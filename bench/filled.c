@@ -1,0 +1,123 @@
+/*
+ * A step by way of a working store: all zeros at full size, then filled from
+ * the area, then the line looks at the store alone. Words that the line writes
+ * go to the store and to the area, so that no pass has to save everything.
+ *
+ * The shape is tested on the bytes first, by plain.c: an area that is refused
+ * costs no store.
+ */
+#include "filled.h"
+
+#include <string.h>
+
+#include "kernelsun.h"
+#include "layout.h"
+#include "plain.h"
+
+/* The words are copied as they stand in the area, which suits only this order of bytes. */
+#if __BYTE_ORDER__ != __ORDER_LITTLE_ENDIAN__
+#error "filled.c is for little-endian machines"
+#endif
+
+/* Document 01's store at full size: 2,674 words. */
+typedef struct {
+    uint32_t header_lock, headers_owner;
+    uint32_t records[THREAD_WORDS * KERNELSUN_THREADS_MOST];
+    uint32_t map[KERNELSUN_LOGICAL_MOST];
+    uint32_t locks[KERNELSUN_LOGICAL_MOST];
+    uint32_t blocks[BLOCK_WORDS * KERNELSUN_PHYSICAL_MOST];
+} store;
+
+/* ---- Where words stand: in the store, and at the same time in the area ---- */
+
+typedef struct {
+    uint32_t *held;
+    uint8_t *bytes;
+} place;
+
+static inline uint32_t get(place word)
+{
+    return *word.held;
+}
+
+static inline void put(place word, uint32_t value)
+{
+    *word.held = value;
+    word_put(word.bytes, 0, value);
+}
+
+typedef struct {
+    store *held;
+    uint8_t *area;
+    sizes s;
+    uint32_t thread, mine, next;
+} machine;
+
+static inline place both(const machine *m, uint32_t *held, size_t word)
+{
+    return (place){held, m->area + BYTES_IN_WORD * word};
+}
+
+static inline place reg_place(const machine *m, size_t field)
+{
+    return both(m, &m->held->records[(size_t)THREAD_WORDS * m->thread + field],
+                thread_word(m->thread, field));
+}
+
+static inline place header_lock(const machine *m)
+{
+    return both(m, &m->held->header_lock, WORD_HEADER_LOCK);
+}
+
+static inline place headers_owner(const machine *m)
+{
+    return both(m, &m->held->headers_owner, WORD_HEADERS_OWNER);
+}
+
+static inline place map_place(const machine *m, uint32_t n)
+{
+    return both(m, &m->held->map[n], map_word(&m->s, n));
+}
+
+static inline place lock_place(const machine *m, uint32_t n)
+{
+    return both(m, &m->held->locks[n], lock_word(&m->s, n));
+}
+
+static inline place block_place(const machine *m, uint32_t p, size_t field)
+{
+    return both(m, &m->held->blocks[(size_t)BLOCK_WORDS * p + field], block_word(&m->s, p, field));
+}
+
+#include "lines.h"
+
+/* ---- Filling the store ---- */
+
+static inline void load_words(uint32_t *to, const uint8_t *area, size_t from, size_t count)
+{
+    memcpy(to, area + BYTES_IN_WORD * from, BYTES_IN_WORD * count);
+}
+
+static inline void load(store *to, const uint8_t *area, const sizes *s)
+{
+    to->header_lock = word_get(area, WORD_HEADER_LOCK);
+    to->headers_owner = word_get(area, WORD_HEADERS_OWNER);
+    load_words(to->records, area, thread_word(0, 0), (size_t)THREAD_WORDS * s->t);
+    load_words(to->map, area, map_word(s, 0), s->n);
+    load_words(to->locks, area, lock_word(s, 0), s->n);
+    load_words(to->blocks, area, block_word(s, 0, 0), (size_t)BLOCK_WORDS * s->p);
+}
+
+uint64_t filled_step(uint8_t *area, size_t len, uint32_t thread)
+{
+    uint32_t refusal = plain_step_refusal(area, len, thread);
+    if (refusal != KERNELSUN_WENT) {
+        return answer(refusal, 0);
+    }
+    store held;
+    memset(&held, 0, sizeof held);
+    machine m = {.held = &held, .area = area, .s = sizes_of(area), .thread = thread,
+                 .mine = thread + 1};
+    load(&held, area, &m.s);
+    return do_line(&m);
+}

@@ -1,0 +1,378 @@
+/*
+ * The lines of document 01 and the acts that they are made of, once for the C
+ * versions of the benchmark. A version says where it keeps words, and includes
+ * this file after it has defined
+ *
+ *     place                     where a word stands
+ *     get(place), put(place, v)
+ *     machine                   one thread of a well-formed area; its fields
+ *                               s (the sizes), mine (what a lock or an owner
+ *                               holds when it is this thread's) and next (the
+ *                               line that follows) are used here
+ *     reg_place(m, field), header_lock(m), headers_owner(m),
+ *     map_place(m, n), lock_place(m, n), block_place(m, p, field)
+ *
+ * An act looks at its need first and writes afterwards, so that a blocked or
+ * refused step leaves every byte alone.
+ */
+#ifndef KERNELSUN_BENCH_LINES_H
+#define KERNELSUN_BENCH_LINES_H
+
+#include "kernelsun.h"
+#include "layout.h"
+
+#define WORD_MOST 0xffffffffu
+
+static inline uint64_t answer(uint32_t number, uint32_t value)
+{
+    return (uint64_t)number << 32 | value;
+}
+
+static inline uint32_t reg(const machine *m, size_t field)
+{
+    return get(reg_place(m, field));
+}
+
+static inline void set_reg(const machine *m, size_t field, uint32_t value)
+{
+    put(reg_place(m, field), value);
+}
+
+static inline int is_mine(const machine *m, place word)
+{
+    return get(word) == m->mine;
+}
+
+/* ---- Locks and owners ---- */
+
+static inline uint32_t take(const machine *m, place lock)
+{
+    if (get(lock) != 0) {
+        return KERNELSUN_BLOCKED;
+    }
+    put(lock, m->mine);
+    return KERNELSUN_WENT;
+}
+
+static inline uint32_t own(const machine *m, place owner)
+{
+    if (get(owner) != 0) {
+        return KERNELSUN_FAULT;
+    }
+    put(owner, m->mine);
+    return KERNELSUN_WENT;
+}
+
+/* Releasing a lock and letting go an owner are one act. */
+static inline uint32_t let_go(const machine *m, place held)
+{
+    if (!is_mine(m, held)) {
+        return KERNELSUN_FAULT;
+    }
+    put(held, 0);
+    return KERNELSUN_WENT;
+}
+
+static inline place n_lock(const machine *m)
+{
+    return lock_place(m, reg(m, THREAD_N));
+}
+
+/* The owner of the block that register p or q names. */
+static inline place owner_of(const machine *m, size_t field)
+{
+    return block_place(m, reg(m, field), BLOCK_OWNER);
+}
+
+/* ---- The map ---- */
+
+static inline uint32_t map_to(const machine *m, uint32_t entry)
+{
+    put(map_place(m, reg(m, THREAD_N)), entry);
+    return KERNELSUN_WENT;
+}
+
+/* W3, R2 and U3: p becomes the block of a mapped number; where to go on from each. */
+static inline uint32_t look_up(machine *m, uint32_t if_mapped, uint32_t if_unmapped)
+{
+    uint32_t entry = get(map_place(m, reg(m, THREAD_N)));
+    if (entry == 0) {
+        m->next = if_unmapped;
+    } else {
+        set_reg(m, THREAD_P, entry - 1);
+        m->next = if_mapped;
+    }
+    return KERNELSUN_WENT;
+}
+
+/* R2 besides makes c empty for an unmapped number. */
+static inline uint32_t look_up_to_read(machine *m, uint32_t if_mapped, uint32_t if_unmapped)
+{
+    look_up(m, if_mapped, if_unmapped);
+    if (m->next == if_unmapped) {
+        set_reg(m, THREAD_C, 0);
+    }
+    return KERNELSUN_WENT;
+}
+
+/* ---- Headers, contents and wear ---- */
+
+static inline int may_write_header(const machine *m, uint32_t p)
+{
+    return is_mine(m, headers_owner(m)) && is_mine(m, block_place(m, p, BLOCK_OWNER));
+}
+
+static inline uint32_t write_header(const machine *m, uint32_t p, uint32_t header)
+{
+    if (!may_write_header(m, p)) {
+        return KERNELSUN_FAULT;
+    }
+    put(block_place(m, p, BLOCK_HEADER), header);
+    return KERNELSUN_WENT;
+}
+
+/* U7 and L13. Wear at its most stays there. */
+static inline uint32_t free_and_wear(const machine *m, uint32_t p)
+{
+    if (!may_write_header(m, p)) {
+        return KERNELSUN_FAULT;
+    }
+    uint32_t wear = get(block_place(m, p, BLOCK_WEAR));
+    put(block_place(m, p, BLOCK_HEADER), 0);
+    put(block_place(m, p, BLOCK_WEAR), wear + (wear != WORD_MOST));
+    return KERNELSUN_WENT;
+}
+
+static inline int content_within_reach(const machine *m, uint32_t p)
+{
+    return is_mine(m, block_place(m, p, BLOCK_OWNER)) && get(block_place(m, p, BLOCK_HEADER)) != 0;
+}
+
+static inline uint32_t read_content(const machine *m, uint32_t p)
+{
+    if (!content_within_reach(m, p)) {
+        return KERNELSUN_FAULT;
+    }
+    set_reg(m, THREAD_C, get(block_place(m, p, BLOCK_CONTENT)));
+    return KERNELSUN_WENT;
+}
+
+static inline uint32_t write_content(const machine *m, uint32_t p, uint32_t content)
+{
+    if (!content_within_reach(m, p)) {
+        return KERNELSUN_FAULT;
+    }
+    put(block_place(m, p, BLOCK_CONTENT), content);
+    return KERNELSUN_WENT;
+}
+
+static inline uint32_t read_header(const machine *m, uint32_t p)
+{
+    if (!is_mine(m, headers_owner(m))) {
+        return KERNELSUN_FAULT;
+    }
+    set_reg(m, THREAD_H, get(block_place(m, p, BLOCK_HEADER)));
+    return KERNELSUN_WENT;
+}
+
+/* L5. */
+static inline uint32_t look_at_header(machine *m, uint32_t if_free)
+{
+    uint32_t header = reg(m, THREAD_H);
+    if (header == 0) {
+        m->next = if_free;
+    } else {
+        set_reg(m, THREAD_N, header - 1);
+    }
+    return KERNELSUN_WENT;
+}
+
+/* ---- Choosing. A search that finds nothing gives P, which is no block. ---- */
+
+/* W5. */
+static inline uint32_t choose_free(const machine *m)
+{
+    uint32_t p = 0, most = m->s.p;
+    if (!is_mine(m, headers_owner(m))) {
+        return KERNELSUN_FAULT;
+    }
+    while (p < most && get(block_place(m, p, BLOCK_HEADER)) != 0) {
+        p++;
+    }
+    if (p == most) {
+        return KERNELSUN_FAULT;
+    }
+    set_reg(m, THREAD_P, p);
+    return KERNELSUN_WENT;
+}
+
+/* A block and its wear, in 64 bits: room for "nothing yet" on either side, and for the sum. */
+typedef struct {
+    uint32_t block;
+    int64_t wear;
+} found;
+
+#define LESS_THAN_ANY_WEAR ((int64_t)-1)
+#define MORE_THAN_ANY_WEAR ((int64_t)WORD_MOST + 1)
+
+/*
+ * Both searches in one pass. Lower numbers come first and keep their place on
+ * ties. Apart from the switch around it, the loop has all its words in registers.
+ */
+__attribute__((noinline)) static void search_from_and_to(const machine *m, found *from, found *to)
+{
+    found least = {m->s.p, MORE_THAN_ANY_WEAR}, most = {m->s.p, LESS_THAN_ANY_WEAR};
+    for (uint32_t p = 0, count = m->s.p; p < count; p++) {
+        int64_t wear = get(block_place(m, p, BLOCK_WEAR));
+        if (get(block_place(m, p, BLOCK_HEADER)) == 0) {
+            if (wear > most.wear) {
+                most = (found){p, wear};
+            }
+        } else if (wear < least.wear) {
+            least = (found){p, wear};
+        }
+    }
+    *from = least;
+    *to = most;
+}
+
+/* L3. Without a mapped block the wear of "from" is out of reach, and nothing is moved. */
+static inline uint32_t choose_from_and_to(const machine *m)
+{
+    found from, to;
+    if (!is_mine(m, headers_owner(m))) {
+        return KERNELSUN_FAULT;
+    }
+    search_from_and_to(m, &from, &to);
+    if (to.block == m->s.p) {
+        return KERNELSUN_FAULT;
+    }
+    set_reg(m, THREAD_P, to.wear < from.wear + m->s.d ? to.block : from.block);
+    set_reg(m, THREAD_Q, to.block);
+    return KERNELSUN_WENT;
+}
+
+/* ---- The lines. "Finish" is done by finish() below. ---- */
+
+static uint32_t write_line(machine *m, uint32_t line)
+{
+    switch (line) {
+    case 1: return take(m, header_lock(m));
+    case 2: return take(m, n_lock(m));
+    case 3: return look_up(m, 12, 4);
+    case 4: return own(m, headers_owner(m));
+    case 5: return choose_free(m);
+    case 6: return own(m, owner_of(m, THREAD_P));
+    case 7: return write_header(m, reg(m, THREAD_P), reg(m, THREAD_N) + 1);
+    case 8: return write_content(m, reg(m, THREAD_P), 0);
+    case 9: return let_go(m, owner_of(m, THREAD_P));
+    case 10: return map_to(m, reg(m, THREAD_P) + 1);
+    case 11: return let_go(m, headers_owner(m));
+    case 12: return let_go(m, header_lock(m));
+    case 13: return own(m, owner_of(m, THREAD_P));
+    case 14: return write_content(m, reg(m, THREAD_P), reg(m, THREAD_C));
+    case 15: return let_go(m, owner_of(m, THREAD_P));
+    default: return let_go(m, n_lock(m));
+    }
+}
+
+static uint32_t read_line(machine *m, uint32_t line)
+{
+    switch (line) {
+    case 1: return take(m, n_lock(m));
+    case 2: return look_up_to_read(m, 3, 6);
+    case 3: return own(m, owner_of(m, THREAD_P));
+    case 4: return read_content(m, reg(m, THREAD_P));
+    case 5: return let_go(m, owner_of(m, THREAD_P));
+    default: return let_go(m, n_lock(m));
+    }
+}
+
+static uint32_t unmap_line(machine *m, uint32_t line)
+{
+    switch (line) {
+    case 1: return take(m, header_lock(m));
+    case 2: return take(m, n_lock(m));
+    case 3: return look_up(m, 4, 10);
+    case 4: return own(m, headers_owner(m));
+    case 5: return own(m, owner_of(m, THREAD_P));
+    case 6: return map_to(m, 0);
+    case 7: return free_and_wear(m, reg(m, THREAD_P));
+    case 8: return let_go(m, owner_of(m, THREAD_P));
+    case 9: return let_go(m, headers_owner(m));
+    case 10: return let_go(m, n_lock(m));
+    default: return let_go(m, header_lock(m));
+    }
+}
+
+static uint32_t level_line(machine *m, uint32_t line)
+{
+    switch (line) {
+    case 1: return take(m, header_lock(m));
+    case 2: return own(m, headers_owner(m));
+    case 3: return choose_from_and_to(m);
+    case 4: return read_header(m, reg(m, THREAD_P));
+    case 5: return look_at_header(m, 17);
+    case 6: return take(m, n_lock(m));
+    case 7: return own(m, owner_of(m, THREAD_P));
+    case 8: return read_content(m, reg(m, THREAD_P));
+    case 9: return own(m, owner_of(m, THREAD_Q));
+    case 10: return write_header(m, reg(m, THREAD_Q), reg(m, THREAD_H));
+    case 11: return write_content(m, reg(m, THREAD_Q), reg(m, THREAD_C));
+    case 12: return map_to(m, reg(m, THREAD_Q) + 1);
+    case 13: return free_and_wear(m, reg(m, THREAD_P));
+    case 14: return let_go(m, owner_of(m, THREAD_Q));
+    case 15: return let_go(m, owner_of(m, THREAD_P));
+    case 16: return let_go(m, n_lock(m));
+    case 17: return let_go(m, headers_owner(m));
+    default: return let_go(m, header_lock(m));
+    }
+}
+
+static inline uint32_t line_of(machine *m, uint32_t op, uint32_t line)
+{
+    switch (op) {
+    case KERNELSUN_WRITE: return write_line(m, line);
+    case KERNELSUN_READ: return read_line(m, line);
+    case KERNELSUN_UNMAP: return unmap_line(m, line);
+    default: return level_line(m, line);
+    }
+}
+
+/* ---- A step after its refusals ---- */
+
+static inline uint32_t finishing_value(const machine *m, uint32_t op)
+{
+    switch (op) {
+    case KERNELSUN_READ: return reg(m, THREAD_C);
+    case KERNELSUN_LEVEL: return reg(m, THREAD_H) != 0;
+    default: return 0;
+    }
+}
+
+static inline uint64_t finish(const machine *m, uint32_t op)
+{
+    uint32_t value = finishing_value(m, op);
+    for (size_t field = 0; field < THREAD_WORDS; field++) {
+        set_reg(m, field, 0);
+    }
+    return answer(KERNELSUN_FINISHED, value);
+}
+
+/* The next line of a thread that isn't idle. */
+static inline uint64_t do_line(machine *m)
+{
+    uint32_t op = reg(m, THREAD_OP), line = reg(m, THREAD_LINE);
+    m->next = line + 1;
+    uint32_t number = line_of(m, op, line);
+    if (number != KERNELSUN_WENT) {
+        return answer(number, 0);
+    }
+    if (line == last_line(op)) {
+        return finish(m, op);
+    }
+    set_reg(m, THREAD_LINE, m->next);
+    return answer(KERNELSUN_WENT, 0);
+}
+
+#endif

@@ -52,8 +52,8 @@ module _ (s : Store) (I : Inv s) where
       Inv (reply (λ s′. s′) s (told s t v) .after)
   told-inv t below Blocked f = I
   told-inv t below Fault f = absurd f
-  told-inv t below (Go r′ e) f = moves-inv s I t r′ e f below
-  told-inv t below (Done answer e) f = moves-inv s I t idle e f below
+  told-inv t below (Go r′ e) f = moves-inv s I t r′ e (f .moves) below
+  told-inv t below (Done answer e) f = moves-inv s I t idle e (f .moves) below
 
   -- refused calls leave the store as it was
   pub inv-call : (e : Entry) → Inv (callStore s e .after)

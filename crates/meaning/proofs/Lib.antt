@@ -1,6 +1,7 @@
 -- What is proved of the machine, in the order in which it is built up.
 pub mod Words
 pub mod Invariant
+pub mod ManagerView
 pub mod Keeping
 pub mod Blocks
 pub mod Sharing
@@ -12,3 +13,4 @@ pub mod Level
 pub mod EveryLine
 pub mod Demand1
 pub mod EitherOrder
+pub mod ManagerStep

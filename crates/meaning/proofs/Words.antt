@@ -1,6 +1,6 @@
 -- Laws of words that are 0 or a number plus one (specs/Holding), of entries of a table, and of tests.
 -- Assumes nothing.
-use mathlib.Core.Path.{_≡_, refl, sym}
+use mathlib.Core.Path.{_≡_, refl, sym, _∙_}
 use mathlib.Core.Bool.{Bool, true, false, _&&_, _||_}
 use Prim.Native.Nat.{ℕ, _+_, _-_, _<_, _≤_}
 use native.Mathlib.Omega.{arith}
@@ -79,6 +79,18 @@ nobody-free w nobody = either-way (free w) (λ f. f) (λ f. let x = held-by w f 
 pub alone-free : (t w : ℕ) → heldBy t w ≡ false → ((v : ℕ) → heldBy v w ≡ true → t ≡ v) → free w ≡ true
 alone-free t w lacks alone =
     nobody-free w (λ v. either-way (heldBy v w) (λ h. rw (← alone v h) lacks) (λ h. h))
+
+-- words that the same threads hold are equal
+pub held-same : (w w′ : ℕ) → ((v : ℕ) → heldBy v w′ ≡ heldBy v w) → w′ ≡ w
+held-same w w′ alike =
+    either-way (free w)
+    (λ f.
+    let z : w ≡ none = eqb-true w 0 f in
+    let y : w′ ≡ none = eqb-true w′ 0 (nobody-free w′ (λ v. alike v ∙ free-held v w f)) in
+    y ∙ sym z)
+    (λ f.
+    let x = held-by w f in
+    held-is (x .0) w′ (alike (x .0) ∙ x .1) ∙ sym (held-is (x .0) w (x .1)))
 
 -- a word that only threads below a bound hold is at most the bound
 pub held-below : (w bound : ℕ) → ((v : ℕ) → heldBy v w ≡ true → v < bound) → w ≤ bound

@@ -13,4 +13,7 @@ pub mod Level
 pub mod EveryLine
 pub mod Demand1
 pub mod EitherOrder
+pub mod Called
+pub mod ManagerLaws
 pub mod ManagerStep
+pub mod ManagerAnswers

@@ -16,4 +16,7 @@ pub mod EitherOrder
 pub mod Called
 pub mod ManagerLaws
 pub mod ManagerStep
+pub mod Schedules
 pub mod ManagerAnswers
+pub mod ManagerOrder
+pub mod Linearizable

@@ -15,13 +15,13 @@ use Rattle.meaning.specs.declared.Effect.{Effect}
 use Rattle.meaning.specs.Numbers.{WENT, FINISHED}
 use Rattle.meaning.specs.Limits.{inLimits}
 use Rattle.meaning.specs.Store.{Store, idle, fresh}
-use Rattle.meaning.specs.Holding.{free}
-use Rattle.meaning.specs.Programs.{LEVEL, lastTake}
+use Rattle.meaning.specs.Holding.{free, heldBy}
+use Rattle.meaning.specs.Programs.{WRITE, READ, LEVEL, lastTake}
 use Rattle.meaning.specs.Step.{nothing, apply}
 use Rattle.meaning.specs.Call.{Entry, begin, step, callStore, isIdle, begun}
 use Rattle.meaning.specs.Manager.{Manager, initial, ebmRead}
 use Rattle.meaning.specs.Schedule.{Operation, operation, Answered, emit, takesLast, run, placing, finishing, order, finishedBy, obey, obeyAll, owed, managed, ofManager}
-use Rattle.meaning.proofs.Words.{same, either-way, clash, upd-same}
+use Rattle.meaning.proofs.Words.{same, either-way, clash, two-ways, free-held, held-by, upd-same}
 use Rattle.meaning.proofs.Invariant.{takesN, kept, Stands, Inv}
 use Rattle.meaning.proofs.Keeping.{Moves, up}
 use Rattle.meaning.proofs.Sharing.{fact}
@@ -30,23 +30,15 @@ use Rattle.meaning.proofs.EveryLine.{idle-is}
 use Rattle.meaning.proofs.Demand1.{inv-fresh, inv-call, inv-run}
 use Rattle.meaning.proofs.ManagerView.{leaves, future, owes, places, answered, due, owing}
 use Rattle.meaning.proofs.Called.{Called, stays, starts, goes, ends, called, replied}
+use Rattle.meaning.proofs.Schedules.{placing-front, finishing-front}
 use Rattle.meaning.proofs.ManagerLaws.{operation-reads, level-obeys, obeyAll-append, managed-passes}
-use Rattle.meaning.proofs.ManagerStep.{future-free, future-step, takes-kept, owing-others}
+use Rattle.meaning.proofs.ManagerStep.{future-free, future-held, future-step, takes-kept, owing-others}
 
 -- the manager holds what the store says
 abbrev pub Matches : Store → Manager → Type 0
 Matches s m = (k : ℕ) → ebmRead k m ≡ future s k
 
-emit-front : {A : Type 0} (b : Bool) (x : A) (l : List A) → emit b x l ≡ emit b x [] ++ l
-emit-front true x l = refl
-emit-front false x l = refl
-
 -- ---- where an operation of the manager's takes its last lock
-
-two-ways : (a b : Bool) → (a ≡ true → b ≡ true) → (b ≡ true → a ≡ true) → a ≡ b
-two-ways true b f g = sym (f refl)
-two-ways false true f g = g refl
-two-ways false false f g = refl
 
 pub takes-last : (s : Store) (r : Thread) → Stands r → isIdle r ≡ false → eqb (r .op) LEVEL ≡ false → takesLast s r ≡ takesN r
 takes-last s r st busy other =
@@ -158,17 +150,6 @@ module _ (s : Store) (I : Inv s) (m : Manager) (M : Matches s m) where
 
 -- ---- over schedules
 
--- what an entry places stands in front
-placing-front : (s : Store) (e : Entry) (l : List Operation) →
-    placing callStore (λ s. s) s e l ≡ placing callStore (λ s. s) s e [] ++ l
-placing-front s (begin t op n c) l = refl
-placing-front s (step t) l = emit-front (eqb (callStore s (step t) .number) WENT && takesLast s (s .thread t)) _ l
-
-finishing-front : (s : Store) (u : ℕ) (e : Entry) (l : List Answered) →
-    finishing callStore (λ s. s) s u e l ≡ finishing callStore (λ s. s) s u e [] ++ l
-finishing-front s u (begin t op n c) l = refl
-finishing-front s u (step t) l = emit-front (eqb (callStore s (step t) .number) FINISHED && eqb t u) _ l
-
 ofManager-append : (l l′ : List Answered) → ofManager (l ++ l′) ≡ ofManager l ++ ofManager l′
 ofManager-append [] l′ = refl
 ofManager-append (x ∷ l) l′ =
@@ -187,17 +168,34 @@ answers-run s I m M u (e ∷ w) =
     ap (λ l. ofManager now ++ l)
     (answers-run s′ (inv-call s I e) (obeyAll m (placing callStore (λ s. s) s e [])) (S .matches) u w) ∙
     sym (append-assoc (ofManager now) (ofManager later) (owing (run callStore s′ w) u)) ∙
-    ap (λ l. l ++ owing (run callStore s′ w) u) (sym (ofManager-append now later) ∙ ap ofManager (sym (finishing-front s u e later)))
+    ap (λ l. l ++ owing (run callStore s′ w) u) (sym (ofManager-append now later) ∙ ap ofManager (sym (finishing-front callStore (λ s. s) s u e later)))
 
 pub matches-run : (s : Store) → Inv s → (m : Manager) → Matches s m → (w : List Entry) →
     Matches (run callStore s w) (obeyAll m (order callStore (λ s. s) s w))
 matches-run s I m M [] = M
 matches-run s I m M (e ∷ w) =
     let S = serves s I m M (called s I e) in
-    rw (placing-front s e (order callStore (λ s. s) (callStore s e .after) w), obeyAll-append)
+    rw (placing-front callStore (λ s. s) s e (order callStore (λ s. s) (callStore s e .after) w), obeyAll-append)
     (matches-run (callStore s e .after) (inv-call s I e) _ (S .matches) w)
 
 -- ---- demand 2
+
+-- a reader or a leveller
+abbrev pub leavesAlone : Thread → Bool
+leavesAlone r = eqb (r .op) LEVEL || eqb (r .op) READ
+
+future-alone : (s : Store) (k : ℕ) → ((v : ℕ) → heldBy v (s .locks k) ≡ true → leavesAlone (s .thread v) ≡ true) → future s k ≡ kept s k
+future-alone s k alone =
+    either-way (free (s .locks k)) (λ f. future-free s k f)
+    (λ f.
+    let v = held-by (s .locks k) f in
+    let r = s .thread (v .0) in
+    future-held s k (v .0) (v .1) ∙
+    either-way (eqb (r .op) LEVEL) (λ x. rw x)
+    (λ x.
+    let reads : eqb (r .op) READ ≡ true = rw x at (alone (v .0) (v .1)) in
+    let writes : eqb (r .op) WRITE ≡ false = rw (eqb-true (r .op) READ reads) in
+    rw (x, writes, reads)))
 
 module _ (t n p d : ℕ) (limits : inLimits t n p d ≡ true) (w : List Entry) where
   pub manager-answers : (u : ℕ) →
@@ -209,9 +207,18 @@ module _ (t n p d : ℕ) (limits : inLimits t n p d ≡ true) (w : List Entry) w
       ebmRead k (obeyAll initial (order callStore (λ s. s) (fresh t n p d) w)) ≡ future (run callStore (fresh t n p d) w) k
   manager-holds = matches-run (fresh t n p d) (inv-fresh t n p d limits) initial (λ k. refl) w
 
+  -- what k's block holds, 0 where k is unmapped, is what the manager holds: where only a reader or a leveller may have k's lock
+  pub manager-holds-kept : (k : ℕ) →
+      ((v : ℕ) → heldBy v (run callStore (fresh t n p d) w .locks k) ≡ true →
+      leavesAlone (run callStore (fresh t n p d) w .thread v) ≡ true) →
+      kept (run callStore (fresh t n p d) w) k ≡ ebmRead k (obeyAll initial (order callStore (λ s. s) (fresh t n p d) w))
+  manager-holds-kept k alone = sym (manager-holds k ∙ future-alone (run callStore (fresh t n p d) w) k alone)
+
+  -- so where k's lock is free
   pub manager-holds-free : (k : ℕ) → free (run callStore (fresh t n p d) w .locks k) ≡ true →
       kept (run callStore (fresh t n p d) w) k ≡ ebmRead k (obeyAll initial (order callStore (λ s. s) (fresh t n p d) w))
-  manager-holds-free k f = sym (manager-holds k ∙ future-free (run callStore (fresh t n p d) w) k f)
+  manager-holds-free k f =
+      manager-holds-kept k (λ v h. clash h (free-held v (run callStore (fresh t n p d) w .locks k) f))
 
 pub owing-short : (s : Store) (u : ℕ) → length (owing s u) ≤ 1
 owing-short s u = either-way (owes (s .thread u)) (λ x. rw x (omega arith)) (λ x. rw x (omega arith))

@@ -23,6 +23,12 @@ either-way false f g = g refl
 pub clash : {A : Type 0} {b : Bool} → b ≡ true → b ≡ false → A
 clash x y = absurd (let z : _≡_ {A = ℕ} 0 1 = cc in omega arith)
 
+-- tests that imply each other are equal
+pub two-ways : (a b : Bool) → (a ≡ true → b ≡ true) → (b ≡ true → a ≡ true) → a ≡ b
+two-ways true b f g = sym (f refl)
+two-ways false true f g = g refl
+two-ways false false f g = refl
+
 pub and-left : (a b : Bool) → (a && b) ≡ true → a ≡ true
 and-left true b e = refl
 and-left false b e = e

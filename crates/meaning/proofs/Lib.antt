@@ -20,3 +20,4 @@ pub mod Schedules
 pub mod ManagerAnswers
 pub mod ManagerOrder
 pub mod Linearizable
+pub mod ManagerSamples

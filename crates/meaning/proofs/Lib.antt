@@ -11,9 +11,9 @@ pub mod Read
 pub mod Unmap
 pub mod Level
 pub mod EveryLine
+pub mod Called
 pub mod Demand1
 pub mod EitherOrder
-pub mod Called
 pub mod ManagerLaws
 pub mod ManagerStep
 pub mod Schedules

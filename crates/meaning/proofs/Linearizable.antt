@@ -14,32 +14,34 @@
 --    (`real-time`). An operation is named by its thread and by how many reads, writes and unmaps of that thread came before it.
 --    A place past the end of S is that of an operation that is not in S.
 --
--- WHAT A READ GIVES. `read-answered` says what the manager answers to a read of number k that stands in S after operations l: what it
--- reads at k after l. That is the word of the last write of k in l (`read-gives-last-write`), and empty, 0, if an unmap of k came
--- after it (`read-gives-empty`) or if no write of k is in l (`read-gives-empty-first`).
+-- WHAT A READ GIVES. A read of number k that stands in S after operations l finishes with what the manager reads at k after l
+-- (`read-finished`; `read-answered` says it of the manager alone). That is the word of the last write of k in l
+-- (`read-gives-last-write`), and empty, 0, if an unmap of k came after it (`read-gives-empty`) or if no write of k is in l
+-- (`read-gives-empty-first`).
 --
 -- TWO NUMBERS NEVER SHARE A BLOCK: `one-block-each`, at every moment, whatever is under way.
 --
 -- Assumes nothing.
 use mathlib.Core.Path.{_≡_, refl, sym, ap, _∙_}
-use mathlib.Core.Bool.{Bool, true, false, not, cond, _&&_}
+use mathlib.Core.Bool.{Bool, true, false, not, _&&_}
 use mathlib.Core.List.{List, [], _∷_, _++_}
-use Prim.Native.Nat.{ℕ, _+_, _<_, _≤_}
+use Prim.Native.Nat.{ℕ, _<_, _≤_}
 use native.Mathlib.Omega.{arith}
 use lib.Dec.{eqb}
-use lib.ListN.{length, length-append}
-use borrow.Author.Tests.{eqb-true, eq-eqb}
+use lib.ListN.{length, getD, length-append, List·getD-append}
+use lib.Seq.{getD-at}
+use borrow.Author.Tests.{eqb-true}
 use Rattle.meaning.specs.Limits.{inLimits}
 use Rattle.meaning.specs.Store.{Store, fresh}
 use Rattle.meaning.specs.Holding.{free, named}
 use Rattle.meaning.specs.Programs.{WRITE, READ, UNMAP, LEVEL}
 use Rattle.meaning.specs.Call.{Entry, callStore}
 use Rattle.meaning.specs.Manager.{Manager, empty, initial, ebmRead}
-use Rattle.meaning.specs.Schedule.{Operation, run, order, begunBy, finishedBy, obey, obeyAll, managed, ofManager}
+use Rattle.meaning.specs.Schedule.{Operation, Answered, run, order, begunBy, finishedBy, obey, obeyAll, managed, ofManager}
 use Rattle.meaning.proofs.Words.{same, either-way, clash, naming-once, naming-named}
 use Rattle.meaning.proofs.Invariant.{Inv}
 use Rattle.meaning.proofs.Demand1.{inv-fresh, inv-run}
-use Rattle.meaning.proofs.ManagerView.{leaves, owing, pending}
+use Rattle.meaning.proofs.ManagerView.{owing, pending}
 use Rattle.meaning.proofs.Schedules.{order-append}
 use Rattle.meaning.proofs.ManagerLaws.{obey-reads, obeyAll-append}
 use Rattle.meaning.proofs.ManagerAnswers.{manager-answers}
@@ -173,6 +175,23 @@ module _ (t n p d : ℕ) (limits : inLimits t n p d ≡ true) where
         answers = manager-answers t n p d limits w;
         real-time = λ v v′ whole u i u′ i′ finished unbegun. rw (← whole) (real-time v v′ u i u′ i′ finished unbegun);
       }
+
+-- ---- what a read that has finished gave
+
+-- A read of thread u that stands in the order after operations l is u's request number `length (requests u l)`. Once that many and one
+-- more have finished, the answer of that number is what the manager reads after l.
+pub read-finished : (t n p d : ℕ) → inLimits t n p d ≡ true → (w : List Entry) (u : ℕ) (l : List Operation) (o : Operation)
+    (l′ : List Operation) → order callStore (λ s. s) (fresh t n p d) w ≡ l ++ (o ∷ l′) → o .op ≡ READ → o .thread ≡ u →
+    length (requests u l) < length (ofManager (finishedBy callStore (λ s. s) (fresh t n p d) u w)) → (none : Answered) →
+    getD (ofManager (finishedBy callStore (λ s. s) (fresh t n p d) u w)) (length (requests u l)) none ≡
+    record { op = READ; value = ebmRead (o .number) (obeyAll initial l) }
+read-finished t n p d limits w u l o l′ is op thread finished none =
+    let s = fresh t n p d in
+    let fin = ofManager (finishedBy callStore (λ s. s) s u w) in
+    let i = length (requests u l) in
+    sym (List·getD-append fin (owing (run callStore s w) u) none i finished) ∙
+    ap (λ x. getD x i none) (sym (manager-answers t n p d limits w u) ∙ ap (managed initial u) is ∙ read-answered initial u l o l′ op thread) ∙
+    getD-at (managed initial u l) _ (managed (obeyAll initial l) u l′) none i (managed-length initial u l)
 
 -- ---- blocks
 

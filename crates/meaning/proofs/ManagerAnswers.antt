@@ -8,7 +8,8 @@ use mathlib.Core.List.{List, [], _∷_, _++_, append-assoc, append-nil}
 use Prim.Native.Nat.{ℕ, _≤_}
 use native.Mathlib.Omega.{arith}
 use lib.Dec.{eqb}
-use lib.ListN.{length}
+use lib.ListN.{length, take}
+use lib.Seq.{take-at}
 use borrow.Author.Tests.{eqb-true, eqb-false, ne-eqb}
 use Rattle.meaning.specs.declared.Thread.{Thread}
 use Rattle.meaning.specs.declared.Effect.{Effect}
@@ -20,16 +21,16 @@ use Rattle.meaning.specs.Programs.{WRITE, READ, LEVEL, lastTake}
 use Rattle.meaning.specs.Step.{nothing, apply}
 use Rattle.meaning.specs.Call.{Entry, begin, step, callStore, isIdle, begun}
 use Rattle.meaning.specs.Manager.{Manager, initial, ebmRead}
-use Rattle.meaning.specs.Schedule.{Operation, operation, Answered, emit, takesLast, run, placing, finishing, order, finishedBy, obey, obeyAll, owed, managed, ofManager}
+use Rattle.meaning.specs.Schedule.{Operation, operation, Answered, emit, takesLast, run, placing, finishing, order, finishedBy, obeyAll, managed, ofManager}
 use Rattle.meaning.proofs.Words.{same, either-way, clash, two-ways, free-held, held-by, upd-same}
 use Rattle.meaning.proofs.Invariant.{takesN, kept, Stands, Inv}
 use Rattle.meaning.proofs.Keeping.{Moves, up}
 use Rattle.meaning.proofs.Sharing.{fact}
-use Rattle.meaning.proofs.Lines.{Goes, Ends}
+use Rattle.meaning.proofs.Lines.{Goes}
 use Rattle.meaning.proofs.EveryLine.{idle-is}
-use Rattle.meaning.proofs.Demand1.{inv-fresh, inv-call, inv-run}
-use Rattle.meaning.proofs.ManagerView.{leaves, future, owes, places, answered, due, owing}
-use Rattle.meaning.proofs.Called.{Called, stays, starts, goes, ends, called, replied}
+use Rattle.meaning.proofs.Demand1.{inv-fresh, inv-call}
+use Rattle.meaning.proofs.ManagerView.{leaves, future, owes, due, owing}
+use Rattle.meaning.proofs.Called.{Called, stays, opens, goes, ends, call-cases, replied}
 use Rattle.meaning.proofs.Schedules.{placing-front, finishing-front}
 use Rattle.meaning.proofs.ManagerLaws.{operation-reads, level-obeys, obeyAll-append, managed-passes}
 use Rattle.meaning.proofs.ManagerStep.{future-free, future-held, future-step, takes-kept, owing-others}
@@ -123,12 +124,12 @@ module _ (s : Store) (I : Inv s) (m : Manager) (M : Matches s m) where
 
   pub serves : {e : Entry} → Called s e → Serves s m e
   serves (stays {e} number went finished x) = refused e number went finished x
-  serves (starts t op n c rests b x) =
+  serves (opens t op n c below rests b x) =
       record {
         matches = rw x (quiet t (begun op n c) nothing b (rw (idle-is (s .thread t) (I .stands t) rests)));
         answers = λ u l. rw (x, started t op n c rests b u);
       }
-  serves (goes t r′ e busy g x) =
+  serves (goes t r′ e below busy g x) =
       let p = takesLast s (s .thread t) in
       record {
         matches = rw x (λ k. placed-reads t busy k ∙ rw (M k) (sym (future-step s I t r′ e (g .moves) k)));
@@ -138,7 +139,7 @@ module _ (s : Store) (I : Inv s) (m : Manager) (M : Matches s m) where
             (placed-answers t busy r′ e g l)
             (λ u apart. rw (managed-passes m u (mine t busy) p l (rw (ne-eqb t u apart)))) u);
       }
-  serves (ends t value e busy g x) =
+  serves (ends t value e below busy g x) =
       let given : Answered = record { op = s .thread t .op; value = value } in
       record {
         matches = rw x (quiet t idle e (g .moves) (ends-takes t e (g .moves)));
@@ -160,7 +161,7 @@ pub answers-run : (s : Store) → Inv s → (m : Manager) → Matches s m → (u
     ofManager (finishedBy callStore (λ s. s) s u w) ++ owing (run callStore s w) u
 answers-run s I m M u [] = append-nil (owing s u)
 answers-run s I m M u (e ∷ w) =
-    let S = serves s I m M (called s I e) in
+    let S = serves s I m M (call-cases s I e) in
     let s′ = callStore s e .after in
     let now = finishing callStore (λ s. s) s u e [] in
     let later = finishedBy callStore (λ s. s) s′ u w in
@@ -174,7 +175,7 @@ pub matches-run : (s : Store) → Inv s → (m : Manager) → Matches s m → (w
     Matches (run callStore s w) (obeyAll m (order callStore (λ s. s) s w))
 matches-run s I m M [] = M
 matches-run s I m M (e ∷ w) =
-    let S = serves s I m M (called s I e) in
+    let S = serves s I m M (call-cases s I e) in
     rw (placing-front callStore (λ s. s) s e (order callStore (λ s. s) (callStore s e .after) w), obeyAll-append)
     (matches-run (callStore s e .after) (inv-call s I e) _ (S .matches) w)
 
@@ -197,11 +198,22 @@ future-alone s k alone =
     let writes : eqb (r .op) WRITE ≡ false = rw (eqb-true (r .op) READ reads) in
     rw (x, writes, reads)))
 
+-- at most one answer is owed to a thread
+pub owing-short : (s : Store) (u : ℕ) → length (owing s u) ≤ 1
+owing-short s u = either-way (owes (s .thread u)) (λ x. rw x (omega arith)) (λ x. rw x (omega arith))
+
 module _ (t n p d : ℕ) (limits : inLimits t n p d ≡ true) (w : List Entry) where
   pub manager-answers : (u : ℕ) →
       managed initial u (order callStore (λ s. s) (fresh t n p d) w) ≡
       ofManager (finishedBy callStore (λ s. s) (fresh t n p d) u w) ++ owing (run callStore (fresh t n p d) w) u
   manager-answers u = answers-run (fresh t n p d) (inv-fresh t n p d limits) initial (λ k. refl) u w
+
+  -- so its finished answers are the first so many of the manager's, all but one at most (`owing-short`)
+  pub finished-first : (u : ℕ) →
+      ofManager (finishedBy callStore (λ s. s) (fresh t n p d) u w) ≡
+      take (length (ofManager (finishedBy callStore (λ s. s) (fresh t n p d) u w)))
+      (managed initial u (order callStore (λ s. s) (fresh t n p d) w))
+  finished-first u = rw (manager-answers u) (sym (take-at _ _ _ refl))
 
   pub manager-holds : (k : ℕ) →
       ebmRead k (obeyAll initial (order callStore (λ s. s) (fresh t n p d) w)) ≡ future (run callStore (fresh t n p d) w) k
@@ -219,6 +231,3 @@ module _ (t n p d : ℕ) (limits : inLimits t n p d ≡ true) (w : List Entry) w
       kept (run callStore (fresh t n p d) w) k ≡ ebmRead k (obeyAll initial (order callStore (λ s. s) (fresh t n p d) w))
   manager-holds-free k f =
       manager-holds-kept k (λ v h. clash h (free-held v (run callStore (fresh t n p d) w .locks k) f))
-
-pub owing-short : (s : Store) (u : ℕ) → length (owing s u) ≤ 1
-owing-short s u = either-way (owes (s .thread u)) (λ x. rw x (omega arith)) (λ x. rw x (omega arith))

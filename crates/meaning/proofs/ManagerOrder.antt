@@ -3,29 +3,25 @@
 -- Levellings, which the manager does not know, are left out. Assumes nothing.
 use mathlib.Core.Path.{_≡_, refl, sym, ap, _∙_}
 use mathlib.Core.Bool.{Bool, true, false, not, _&&_, and-false}
-use mathlib.Core.List.{List, [], _∷_, _++_, append-assoc, append-nil}
-use Prim.Native.Nat.{ℕ, zero, suc, _+_, _<_, _≤_}
+use mathlib.Core.List.{List, [], _∷_, _++_, map, append-assoc, append-nil}
+use Prim.Native.Nat.{ℕ, zero, suc, _<_, _≤_}
 use native.Mathlib.Omega.{arith}
 use lib.Dec.{eqb}
-use lib.ListN.{length, length-append}
+use lib.ListN.{length, length-map}
 use borrow.Author.Tests.{ne-eqb}
-use Rattle.meaning.specs.declared.Thread.{Thread}
-use Rattle.meaning.specs.declared.Effect.{Effect}
-use Rattle.meaning.specs.Numbers.{WENT, FINISHED}
+use Rattle.meaning.specs.Numbers.{WENT}
 use Rattle.meaning.specs.Store.{Store, idle}
 use Rattle.meaning.specs.Programs.{WRITE, LEVEL}
-use Rattle.meaning.specs.Step.{nothing, apply}
-use Rattle.meaning.specs.Call.{Entry, begin, step, callStore, isIdle, begun, storedC}
+use Rattle.meaning.specs.Call.{Entry, begin, step, callStore, isIdle, begun}
 use Rattle.meaning.specs.Manager.{Manager}
 use Rattle.meaning.specs.Schedule.{Operation, operation, emit, takesLast, run, placing, starting, order, begunBy, obey, managed}
-use Rattle.meaning.proofs.Words.{same, either-way, clash, two-ways, upd-each}
+use Rattle.meaning.proofs.Words.{same, either-way, two-ways, upd-each}
 use Rattle.meaning.proofs.Invariant.{takesN, Stands, Inv}
-use Rattle.meaning.proofs.Keeping.{Moves, up}
-use Rattle.meaning.proofs.Lines.{Goes, Ends}
+use Rattle.meaning.proofs.Keeping.{up}
 use Rattle.meaning.proofs.EveryLine.{idle-is}
 use Rattle.meaning.proofs.Demand1.{inv-call}
 use Rattle.meaning.proofs.ManagerView.{places, unplaced, unplaced-of, pending}
-use Rattle.meaning.proofs.Called.{Called, stays, starts, goes, ends, called, replied}
+use Rattle.meaning.proofs.Called.{Called, stays, opens, goes, ends, call-cases, replied}
 use Rattle.meaning.proofs.Schedules.{placing-front, starting-front}
 use Rattle.meaning.proofs.ManagerAnswers.{takes-last}
 
@@ -56,11 +52,15 @@ pub requests-append : (u : ℕ) (l l′ : List Operation) → requests u (l ++ l
 requests-append u [] l′ = refl
 requests-append u (o ∷ l) l′ = either-way (requestOf u o) (λ x. rw (x, requests-append u l l′)) (λ x. rw x (requests-append u l l′))
 
--- the manager answers each
+-- the manager answers each, in order
+pub managed-ops : (m : Manager) (u : ℕ) (l : List Operation) → map (λ x. x .op) (managed m u l) ≡ map (λ o. o .op) (requests u l)
+managed-ops m u [] = refl
+managed-ops m u (o ∷ l) =
+    either-way (requestOf u o) (λ x. rw (x, managed-ops (obey o m) u l)) (λ x. rw x (managed-ops (obey o m) u l))
+
 pub managed-length : (m : Manager) (u : ℕ) (l : List Operation) → length (managed m u l) ≡ length (requests u l)
-managed-length m u [] = refl
-managed-length m u (o ∷ l) =
-    either-way (requestOf u o) (λ x. rw (x, managed-length (obey o m) u l)) (λ x. rw x (managed-length (obey o m) u l))
+managed-length m u l =
+    sym (length-map (managed m u l) (λ x. x .op)) ∙ ap length (managed-ops m u l) ∙ length-map (requests u l) (λ o. o .op)
 
 -- a request that the first list has stands in it, and one that it has not stands after it
 from-first : (o : Operation) (r : List Operation) (later : ℕ → ℕ) (n : ℕ) → ((j : ℕ) → j < length r → later j < n) →
@@ -119,20 +119,24 @@ module _ (s : Store) (I : Inv s) where
 
   pub placed : {e : Entry} → Called s e → Places s e
   placed (stays {e} number went finished x) u = refused e number went x u
-  placed (starts t op n c rests b x) u =
+  placed (opens t op n c below rests b x) u =
       rw x (upd-each (λ u r. pending s u ++ requests u (emit (eqb t u) (operation t op n c) []) ≡ unplaced-of u r)
       (s .thread) t (begun op n c)
       (rw (idle-is (s .thread t) (I .stands t) rests, same t) (begun-pends t op n c (b .stands))) (λ u apart. rw (ne-eqb t u apart) (append-nil (pending s u))) u)
-  placed (goes t r′ e busy g x) u =
+  placed (goes t r′ e below busy g x) u =
       let p = takesLast s (s .thread t) in
       let o = operation t (s .thread t .op) (s .thread t .n) (s .thread t .c) in
       rw (x, append-nil (pending s u)) (upd-each (λ u r. pending s u ≡ requests u (emit p o []) ++ unplaced-of u r)
       (s .thread) t r′ (g .pends ∙ went-places t busy (unplaced-of t r′)) (λ u apart. either-way p (λ y. rw (y, ne-eqb t u apart)) (λ y. rw y)) u)
-  placed (ends t value e busy g x) u =
+  placed (ends t value e below busy g x) u =
       rw (x, append-nil (pending s u)) (upd-each (λ u r. pending s u ≡ unplaced-of u r) (s .thread) t idle (g .pends)
       (λ u apart. refl) u)
 
 -- ---- over schedules
+
+-- at most one operation of a thread has no place
+pub pending-short : (s : Store) (u : ℕ) → length (pending s u) ≤ 1
+pending-short s u = either-way (unplaced (s .thread u)) (λ x. rw x (omega arith)) (λ x. rw x (omega arith))
 
 pub requests-run : (s : Store) → Inv s → (u : ℕ) (w : List Entry) →
     pending s u ++ requests u (begunBy callStore (λ s. s) s u w) ≡
@@ -147,7 +151,7 @@ requests-run s I u (e ∷ w) =
     ap (λ l. pending s u ++ requests u l) (starting-front callStore (λ s. s) s u e later) ∙
     ap (λ l. pending s u ++ l) (requests-append u begins later) ∙
     sym (append-assoc (pending s u) (requests u begins) (requests u later)) ∙
-    ap (λ l. l ++ requests u later) (placed s I (called s I e) u) ∙
+    ap (λ l. l ++ requests u later) (placed s I (call-cases s I e) u) ∙
     append-assoc (requests u goes) (pending s′ u) (requests u later) ∙
     ap (λ l. requests u goes ++ l) (requests-run s′ (inv-call s I e) u w) ∙
     sym (append-assoc (requests u goes) (requests u after) (pending (run callStore s′ w) u)) ∙

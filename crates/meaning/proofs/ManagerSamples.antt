@@ -1,16 +1,16 @@
 -- Samples of how operations overlap, computed. Each is small enough to follow by hand beside 01, "The lines".
 -- Assumes nothing.
 use mathlib.Core.Path.{_≡_, refl}
-use mathlib.Core.Bool.{Bool, true, false, not, _&&_}
+use mathlib.Core.Bool.{Bool, true, not, _&&_}
 use mathlib.Core.List.{List, [], _∷_}
 use Prim.Native.Nat.{ℕ, zero, suc}
 use lib.Dec.{eqb}
-use Rattle.meaning.specs.Numbers.{WENT, FINISHED, BLOCKED}
+use Rattle.meaning.specs.Numbers.{WENT, FINISHED}
 use Rattle.meaning.specs.Store.{Store, fresh}
 use Rattle.meaning.specs.Programs.{WRITE, READ, UNMAP, lastLine}
-use Rattle.meaning.specs.Call.{Entry, begin, step, callStore}
+use Rattle.meaning.specs.Call.{Entry, begin, callStore}
 use Rattle.meaning.specs.Manager.{initial}
-use Rattle.meaning.specs.Schedule.{Answered, operation, run, replies, steps, order, finishedBy, obeyAll}
+use Rattle.meaning.specs.Schedule.{operation, run, replies, steps, order, finishedBy, obeyAll}
 use Rattle.meaning.proofs.Invariant.{kept}
 use Rattle.meaning.proofs.ManagerView.{future, owing}
 

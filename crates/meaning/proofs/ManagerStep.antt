@@ -1,25 +1,23 @@
 -- What one step does to what the numbers will hold and to what is owed (ManagerView): at a number's lock it is what the manager does,
 -- and at every other line nothing.
 -- Assumes nothing.
-use mathlib.Core.Path.{_≡_, refl, sym, ap, _∙_, subst}
-use mathlib.Core.Bool.{Bool, true, false, not, cond, _&&_, and-false, and-true}
-use mathlib.Core.List.{List, [], _∷_, _++_}
-use mathlib.Core.Logic.{_⊎_, inl, inr}
-use Prim.Native.Nat.{ℕ, _<_}
+use mathlib.Core.Path.{_≡_, refl, sym, _∙_, subst}
+use mathlib.Core.Bool.{true, false, not, cond, _&&_, and-false, and-true}
+use Prim.Native.Nat.{ℕ}
 use native.Mathlib.Omega.{arith}
 use lib.Dec.{eqb}
-use borrow.Author.Tests.{eqb-true, eqb-false, ne-eqb}
+use borrow.Author.Tests.{eqb-true, eqb-false}
 use Rattle.meaning.specs.declared.Thread.{Thread}
 use Rattle.meaning.specs.declared.Effect.{Effect}
 use Rattle.meaning.specs.Store.{Store}
 use Rattle.meaning.specs.Holding.{free, heldBy, named}
 use Rattle.meaning.specs.Programs.{READ}
 use Rattle.meaning.specs.Step.{apply}
-use Rattle.meaning.proofs.Words.{same, either-way, clash, and-left, and-right, free-held, held-is, held-not-free, held-once, held-by, held-same, alone-free, nobody-free, upd-same, upd-other}
-use Rattle.meaning.proofs.Invariant.{takesN, takesLock, holdsN, holdsLock, kept, Holds, Inv}
-use Rattle.meaning.proofs.Keeping.{Moves, up, entry-kept, unheld-kept, moves-inv}
+use Rattle.meaning.proofs.Words.{same, either-way, clash, held-is, held-not-free, held-once, held-by, held-same, alone-free, upd-same, upd-other}
+use Rattle.meaning.proofs.Invariant.{takesN, takesLock, holdsN, holdsLock, kept, Inv}
+use Rattle.meaning.proofs.Keeping.{Moves, up, entry-kept, unheld-kept}
 use Rattle.meaning.proofs.Sharing.{fact}
-use Rattle.meaning.proofs.ManagerView.{leaves, promised, future, owes, due, owing}
+use Rattle.meaning.proofs.ManagerView.{leaves, promised, future, owes, owing}
 
 -- ---- what a number will hold, where its lock is free and where it is held
 

@@ -1,5 +1,6 @@
--- A schedule in two parts: what it leaves, orders, begins and finishes is what the first part does and then, from the store that the first
--- part left, the second. Over any kind of store. Assumes nothing.
+-- A schedule in two parts leaves and orders what the first part does and then, from the store that the first part left, the second. What one
+-- call adds to the order, to what a thread has begun and to what it has finished stands in front. Over any kind of store.
+-- Assumes nothing.
 use mathlib.Core.Path.{_≡_, refl, sym, ap, _∙_}
 use mathlib.Core.Bool.{Bool, true, false, _&&_}
 use mathlib.Core.List.{List, [], _∷_, _++_, append-assoc}
@@ -8,7 +9,7 @@ use lib.Dec.{eqb}
 use Rattle.meaning.specs.Numbers.{WENT, FINISHED}
 use Rattle.meaning.specs.Store.{Store}
 use Rattle.meaning.specs.Call.{Reply, Entry, begin, step}
-use Rattle.meaning.specs.Schedule.{Operation, Answered, emit, takesLast, run, placing, starting, finishing, order, begunBy, finishedBy}
+use Rattle.meaning.specs.Schedule.{Operation, Answered, emit, takesLast, run, placing, starting, finishing, order}
 
 emit-front : {A : Type 0} (b : Bool) (x : A) (l : List A) → emit b x l ≡ emit b x [] ++ l
 emit-front true x l = refl

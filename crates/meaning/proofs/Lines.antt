@@ -32,7 +32,8 @@ pub data Waits (s : Store) (r : Thread) : Type 0 where
   for-H : holdsH r ≡ false → holdsN r ≡ false → free (s .lock) ≡ false → Waits s r
   for-N : holdsN r ≡ false → free (s .locks (r .n)) ≡ false → Waits s r
 
--- Any other line: the answer to its operation, if it is the manager's, is owed from the last lock on; until then its place pends.
+-- a line that is not the last: the answer to its operation, if it is the manager's, is owed from the last lock on, and until then its
+-- place pends
 pub record Goes (s : Store) (t : ℕ) (r r′ : Thread) (e : Effect) : Type 0 where
   pub moves : Moves s t r r′ e
   pub owed : due (apply s t r′ e) r′ ≡ emit (places r) (answered r (kept s (r .n))) (due s r)

@@ -89,34 +89,37 @@ module _ (s : Store) (I : Inv s) (m : Manager) (M : Matches s m) where
           either-way (owes (begun op n c))
           (λ x. clash (up owes (λ r. not (eqb (r .line) 1)) refl (begun op n c) (b .stands) x) refl) (λ x. x)
 
-  -- the operation that t's step places, and what the manager then reads
-  module _ (t : ℕ) (busy : isIdle (s .thread t) ≡ false) where
-    abbrev mine : Operation
-    mine = operation t (s .thread t .op) (s .thread t .n) (s .thread t .c)
+  -- t's operation, and where its step takes the last lock
+  abbrev mine : ℕ → Operation
+  mine t = operation t (s .thread t .op) (s .thread t .n) (s .thread t .c)
 
-    placed-reads : (k : ℕ) → ebmRead k (obeyAll m (emit (takesLast s (s .thread t)) mine [])) ≡
-        cond (takesN (s .thread t) && eqb (s .thread t .n) k) (leaves (s .thread t .op) (s .thread t .c) (ebmRead k m)) (ebmRead k m)
-    placed-reads k =
-        let r = s .thread t in
-        either-way (eqb (r .op) LEVEL)
-        (λ x. rw (level-obeys m (takesLast s r) mine x, x) (either-way (takesN r && eqb (r .n) k) (λ y. rw y) (λ y. rw y)))
-        (λ x. rw (takes-last s r (I .stands t) busy x) (either-way (takesN r)
-        (λ y. rw y (operation-reads t (r .op) (r .n) (r .c) x m k)) (λ y. rw y)))
+  abbrev last : ℕ → Bool
+  last t = takesLast s (s .thread t)
 
-    -- what it adds to what is owed is what the manager answers
-    placed-answers : (r′ : Thread) (e : Effect) → Goes s t (s .thread t) r′ e → (l : List Operation) →
-        due s (s .thread t) ++ managed m t (emit (takesLast s (s .thread t)) mine l) ≡
-        due (apply s t r′ e) r′ ++ managed (obeyAll m (emit (takesLast s (s .thread t)) mine [])) t l
-    placed-answers r′ e g l =
-        let r = s .thread t in
-        rw (g .owed) (either-way (eqb (r .op) LEVEL)
-        (λ x. rw (managed-passes m t mine (takesLast s r) l (rw (same t, x)), x))
-        (λ x. rw (takes-last s r (I .stands t) busy x) (either-way (takesN r)
-        (λ y.
-        let nothing-due : owes r ≡ false =
-        either-way (owes r) (λ z. clash (up takesN (λ r. not (owes r)) refl r (I .stands t) y) (rw z)) (λ z. z) in
-        let content : ebmRead (r .n) m ≡ kept s (r .n) = M (r .n) ∙ takes-kept s I t r′ e (g .moves) y in
-        rw (y, x, same t, nothing-due, content)) (λ y. rw (y, x)))))
+  -- what the manager reads once it is placed
+  placed-reads : (t : ℕ) → isIdle (s .thread t) ≡ false → (k : ℕ) → ebmRead k (obeyAll m (emit (last t) (mine t) [])) ≡
+      cond (takesN (s .thread t) && eqb (s .thread t .n) k) (leaves (s .thread t .op) (s .thread t .c) (ebmRead k m)) (ebmRead k m)
+  placed-reads t busy k =
+      let r = s .thread t in
+      either-way (eqb (r .op) LEVEL)
+      (λ x. rw (level-obeys m (last t) (mine t) x, x) (either-way (takesN r && eqb (r .n) k) (λ y. rw y) (λ y. rw y)))
+      (λ x. rw (takes-last s r (I .stands t) busy x) (either-way (takesN r)
+      (λ y. rw y (operation-reads t (r .op) (r .n) (r .c) x m k)) (λ y. rw y)))
+
+  -- what it adds to what is owed is what the manager answers
+  placed-answers : (t : ℕ) → isIdle (s .thread t) ≡ false → (r′ : Thread) (e : Effect) → Goes s t (s .thread t) r′ e →
+      (l : List Operation) → due s (s .thread t) ++ managed m t (emit (last t) (mine t) l) ≡
+      due (apply s t r′ e) r′ ++ managed (obeyAll m (emit (last t) (mine t) [])) t l
+  placed-answers t busy r′ e g l =
+      let r = s .thread t in
+      rw (g .owed) (either-way (eqb (r .op) LEVEL)
+      (λ x. rw (managed-passes m t (mine t) (last t) l (rw (same t, x)), x))
+      (λ x. rw (takes-last s r (I .stands t) busy x) (either-way (takesN r)
+      (λ y.
+      let nothing-due : owes r ≡ false =
+      either-way (owes r) (λ z. clash (up takesN (λ r. not (owes r)) refl r (I .stands t) y) (rw z)) (λ z. z) in
+      let content : ebmRead (r .n) m ≡ kept s (r .n) = M (r .n) ∙ takes-kept s I t r′ e (g .moves) y in
+      rw (y, x, same t, nothing-due, content)) (λ y. rw (y, x)))))
 
   -- a thread that ends takes no lock
   ends-takes : (t : ℕ) (e : Effect) → Moves s t (s .thread t) idle e → takesN (s .thread t) ≡ false
@@ -130,14 +133,13 @@ module _ (s : Store) (I : Inv s) (m : Manager) (M : Matches s m) where
         answers = λ u l. rw (x, started t op n c rests b u);
       }
   serves (goes t r′ e below busy g x) =
-      let p = takesLast s (s .thread t) in
       record {
         matches = rw x (λ k. placed-reads t busy k ∙ rw (M k) (sym (future-step s I t r′ e (g .moves) k)));
         answers =
             λ u l. rw x (owing-each t r′ e (g .moves)
-            (λ u x y. x ++ managed m u (emit p (mine t busy) l) ≡ y ++ managed (obeyAll m (emit p (mine t busy) [])) u l)
+            (λ u x y. x ++ managed m u (emit (last t) (mine t) l) ≡ y ++ managed (obeyAll m (emit (last t) (mine t) [])) u l)
             (placed-answers t busy r′ e g l)
-            (λ u apart. rw (managed-passes m u (mine t busy) p l (rw (ne-eqb t u apart)))) u);
+            (λ u apart. rw (managed-passes m u (mine t) (last t) l (rw (ne-eqb t u apart)))) u);
       }
   serves (ends t value e below busy g x) =
       let given : Answered = record { op = s .thread t .op; value = value } in

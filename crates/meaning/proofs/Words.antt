@@ -86,6 +86,14 @@ pub alone-free : (t w : ℕ) → heldBy t w ≡ false → ((v : ℕ) → heldBy 
 alone-free t w lacks alone =
     nobody-free w (λ v. either-way (heldBy v w) (λ h. rw (← alone v h) lacks) (λ h. h))
 
+-- and what only t gets or gives up, seen where t hasn't it
+pub turned-free : (t w w′ : ℕ) → ((v : ℕ) → (t ≡ v → ⊥) → heldBy v w ≡ heldBy v w′) → heldBy t w ≡ false → heldBy t w′ ≡ true →
+    free w ≡ true
+turned-free t w w′ others lacks has =
+    alone-free t w lacks
+    (λ v h. either-way (eqb t v) (λ x. eqb-true t v x)
+    (λ x. held-once t v w′ has (sym (others v (eqb-false t v x)) ∙ h)))
+
 -- words that the same threads hold are equal
 pub held-same : (w w′ : ℕ) → ((v : ℕ) → heldBy v w′ ≡ heldBy v w) → w′ ≡ w
 held-same w w′ alike =

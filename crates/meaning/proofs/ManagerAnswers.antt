@@ -28,7 +28,7 @@ use Rattle.meaning.proofs.Keeping.{Moves, up}
 use Rattle.meaning.proofs.Sharing.{fact}
 use Rattle.meaning.proofs.Lines.{Goes}
 use Rattle.meaning.proofs.EveryLine.{idle-is}
-use Rattle.meaning.proofs.Demand1.{inv-fresh, inv-call}
+use Rattle.meaning.proofs.Demand1.{inv-fresh, inv-call, inv-run}
 use Rattle.meaning.proofs.ManagerView.{leaves, future, owes, due, owing}
 use Rattle.meaning.proofs.Called.{Called, stays, opens, goes, ends, call-cases, replied}
 use Rattle.meaning.proofs.Schedules.{placing-front, finishing-front}
@@ -233,3 +233,10 @@ module _ (t n p d : ℕ) (limits : inLimits t n p d ≡ true) (w : List Entry) w
       kept (run callStore (fresh t n p d) w) k ≡ ebmRead k (obeyAll initial (order callStore (λ s. s) (fresh t n p d) w))
   manager-holds-free k f =
       manager-holds-kept k (λ v h. clash h (free-held v (run callStore (fresh t n p d) w .locks k) f))
+
+  -- and at rest, where all threads are idle, of every number
+  pub manager-holds-rest : ((v : ℕ) → run callStore (fresh t n p d) w .thread v ≡ idle) → (k : ℕ) →
+      kept (run callStore (fresh t n p d) w) k ≡ ebmRead k (obeyAll initial (order callStore (λ s. s) (fresh t n p d) w))
+  manager-holds-rest rest k =
+      let I = inv-run (fresh t n p d) (inv-fresh t n p d limits) w in
+      manager-holds-kept k (λ v h. clash h (I .holds v .locks k ∙ rw (rest v)))

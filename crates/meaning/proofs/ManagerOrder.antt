@@ -7,7 +7,7 @@ use mathlib.Core.List.{List, [], _∷_, _++_, map, append-assoc, append-nil}
 use Prim.Native.Nat.{ℕ, zero, suc, _<_, _≤_}
 use native.Mathlib.Omega.{arith}
 use lib.Dec.{eqb}
-use lib.ListN.{length, length-map}
+use lib.ListN.{length, getD, length-map}
 use borrow.Author.Tests.{ne-eqb}
 use Rattle.meaning.specs.Numbers.{WENT}
 use Rattle.meaning.specs.Store.{Store, idle}
@@ -61,6 +61,20 @@ managed-ops m u (o ∷ l) =
 pub managed-length : (m : Manager) (u : ℕ) (l : List Operation) → length (managed m u l) ≡ length (requests u l)
 managed-length m u l =
     sym (length-map (managed m u l) (λ x. x .op)) ∙ ap length (managed-ops m u l) ∙ length-map (requests u l) (λ o. o .op)
+
+-- what stands at the place of a request is the request
+from-place : (o : Operation) (r l : List Operation) (later : ℕ → ℕ) (none : Operation) →
+    ((j : ℕ) → j < length r → getD l (later j) none ≡ getD r j none) → (mine : Bool) (i : ℕ) → i < length (emit mine o r) →
+    getD (o ∷ l) (placeFrom mine i later) none ≡ getD (emit mine o r) i none
+from-place o r l later none rest true zero b = refl
+from-place o r l later none rest true (suc i) b = rest i (omega arith)
+from-place o r l later none rest false i b = rest i b
+
+pub place-holds : (u : ℕ) (l : List Operation) (none : Operation) (i : ℕ) → i < length (requests u l) →
+    getD l (place u l i) none ≡ getD (requests u l) i none
+place-holds u [] none i b = absurd (omega arith)
+place-holds u (o ∷ l) none i b =
+    from-place o (requests u l) l (place u l) none (place-holds u l none) (requestOf u o) i b
 
 -- a request that the first list has stands in it, and one that it has not stands after it
 from-first : (o : Operation) (r : List Operation) (later : ℕ → ℕ) (n : ℕ) → ((j : ℕ) → j < length r → later j < n) →

@@ -1,11 +1,12 @@
 -- What a user of the layer may rely on, in terms of the manager and of schedules alone. Nothing here depends on how a line works.
 --
--- LINEARIZABILITY, as Herlihy and Wing (1990) define it: "A history H is linearizable if it can be extended (by appending zero or more
--- response events) to some history H′ such that: L1: complete(H′) is equivalent to some legal sequential history S, and L2: <H ⊆ <S."
+-- LINEARIZABILITY, as Herlihy and Wing (1990) define it. A history H is linearizable if responses can be appended to it such that, of the
+-- history H′ that this gives, (L1) complete(H′), which is H′ without the invocations that have no response, is equivalent to some legal
+-- sequential history S, and (L2) the order <H of operations in H is kept in S.
 -- Here H is a schedule w on a fresh store with what its calls answer: a begin that went is an invocation, a step that finished is a
 -- response. Its reads, writes and unmaps are the invocations; levellings, which the manager does not know, are left out. Then:
 --  * the responses that are appended are `owing`: one at most for each thread, to an operation that has taken its last lock;
---  * complete(H′) leaves out the invocations that still have no response, `pending`: one at most for each thread;
+--  * the invocations that complete(H′) leaves out are `pending`: one at most for each thread;
 --  * S is `order`: the operations in the order of their last locks, one after the other, each with the manager's answer (`managed`).
 --    It is legal since the manager, which starts empty, gives the answers;
 --  * equivalent means that each thread sees the same in both: the same invocations (`asks`) and the same responses (`answers`), in
@@ -139,14 +140,14 @@ module _ (t n p d : ℕ) (limits : inLimits t n p d ≡ true) where
       let fin = ofManager (finishedBy callStore (λ s. s) s u w) in
       let x = ap length (manager-answers t n p d limits w u) ∙ length-append fin (owing (run callStore s w) u) in
       let y = managed-length initial u (order callStore (λ s. s) s w) in
-      omega (arith, x, y)
+      omega arith
 
   pub placed-begun : (w : List Entry) (u : ℕ) → length (requests u (order callStore (λ s. s) (fresh t n p d) w)) ≤
       length (requests u (begunBy callStore (λ s. s) (fresh t n p d) u w))
   placed-begun w u =
       let s = fresh t n p d in
       let x = ap length (asked w u) ∙ length-append (requests u (order callStore (λ s. s) s w)) (pending (run callStore s w) u) in
-      omega (arith, x)
+      omega arith
 
   -- the order of a schedule in two parts is in two parts
   pub real-time-parts : (v v′ : List Entry) → order callStore (λ s. s) (fresh t n p d) (v ++ v′) ≡
@@ -164,9 +165,9 @@ module _ (t n p d : ℕ) (limits : inLimits t n p d ≡ true) where
       let l′ = order callStore (λ s. s) (run callStore s v) v′ in
       let a = finished-placed v u in
       let b = placed-begun v u′ in
-      let x = place-first u l l′ i (omega (arith, a)) in
-      let y = place-second u′ l l′ i′ (omega (arith, b)) in
-      rw (real-time-parts v v′) (omega (arith, x, y))
+      let x = place-first u l l′ i (omega arith) in
+      let y = place-second u′ l l′ i′ (omega arith) in
+      rw (real-time-parts v v′) (omega arith)
 
   pub linearizable : (w : List Entry) → Linearizes (fresh t n p d) w
   linearizable w =

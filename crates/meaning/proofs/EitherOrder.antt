@@ -344,8 +344,8 @@ module _ (s : Store) (t : ℕ) where
       (goes-reply (verdict s t) (g .number) (g .value) (g .becomes) (g .effect) (g .told′))
 
   goes-moves : (v : Verdict) (n a : ℕ) (q r : Thread) (e : Effect) → Goes v n a r e → Fine s t q v → Moves s t q r e
-  goes-moves v n a q r e goes f = f
-  goes-moves v n a q r e ends f = f
+  goes-moves v n a q r e goes f = f .moves
+  goes-moves v n a q r e ends f = f .moves
 
   going-moves : Inv s → (g : Going s t) → Moves s t (s .thread t) (g .becomes) (g .effect)
   going-moves I g =

@@ -196,7 +196,7 @@ module _ (s : Store) (I : Inv s) (t : ℕ) (r′ : Thread) (e : Effect) (M : Mov
   perform-alike (MapTo c) l b x y = refl
   perform-alike Unmap l b x y = refl
 
-  verdict-alike : t < s .threads → u < s .threads → isIdle (s .thread u) ≡ false → (verdict s u ≡ Blocked → ⊥) →
+  pub verdict-alike : t < s .threads → u < s .threads → isIdle (s .thread u) ≡ false → (verdict s u ≡ Blocked → ⊥) →
       verdict (apply s t r′ e) u ≡ verdict s u
   verdict-alike below u-below busy goes =
       let other : eqb t u ≡ false = ne-eqb t u apart in
@@ -207,7 +207,7 @@ module _ (s : Store) (I : Inv s) (t : ℕ) (r′ : Thread) (e : Effect) (M : Mov
 
 -- ---- two threads' effects change no common word
 
-upds-commute : {A : Type 0} (f : ℕ → A) (i j : ℕ) (v w : A) → (i ≡ j → ⊥) → upd (upd f i v) j w ≡ upd (upd f j w) i v
+pub upds-commute : {A : Type 0} (f : ℕ → A) (i j : ℕ) (v w : A) → (i ≡ j → ⊥) → upd (upd f i v) j w ≡ upd (upd f j w) i v
 upds-commute f i j v w apart =
     fun-ext (upd-each (λ k x. x ≡ upd (upd f j w) i v k) (upd f i v) j w
     (sym (upd-other (upd f j w) i j v apart ∙ upd-same f j w)) (λ k others. rw (ne-eqb j k others)))
@@ -279,29 +279,29 @@ module _ (t u : ℕ) (apart : t ≡ u → ⊥) where
 -- ---- a step that goes
 
 -- a verdict that is no refusal: its number and value, the next record and the effect
-data Goes : Verdict → ℕ → ℕ → Thread → Effect → Type 0 where
+pub data Goes : Verdict → ℕ → ℕ → Thread → Effect → Type 0 where
   goes : {r : Thread} {e : Effect} → Goes (Go r e) WENT 0 r e
   ends : {a : ℕ} {e : Effect} → Goes (Done a e) FINISHED a idle e
 
 -- thread t is open, and its verdict goes
-record Going (s : Store) (t : ℕ) : Type 0 where
-  below : t < s .threads
-  busy : isIdle (s .thread t) ≡ false
-  number : ℕ
-  value : ℕ
-  becomes : Thread
-  effect : Effect
-  told′ : Goes (verdict s t) number value becomes effect
+pub record Going (s : Store) (t : ℕ) : Type 0 where
+  pub below : t < s .threads
+  pub busy : isIdle (s .thread t) ≡ false
+  pub number : ℕ
+  pub value : ℕ
+  pub becomes : Thread
+  pub effect : Effect
+  pub told′ : Goes (verdict s t) number value becomes effect
 
-abbrev left-by : (s : Store) (t : ℕ) → Going s t → Store
+abbrev pub left-by : (s : Store) (t : ℕ) → Going s t → Store
 left-by s t g = apply s t (g .becomes) (g .effect)
 
 -- what its call replies
-abbrev answered : (s : Store) (t : ℕ) → Going s t → Reply Store
+abbrev pub answered : (s : Store) (t : ℕ) → Going s t → Reply Store
 answered s t g = record { number = g .number; value = g .value; after = left-by s t g }
 
 module _ (s : Store) (t : ℕ) where
-  told-going : t < s .threads → isIdle (s .thread t) ≡ false → (v : Verdict) → v ≡ verdict s t →
+  pub told-going : t < s .threads → isIdle (s .thread t) ≡ false → (v : Verdict) → v ≡ verdict s t →
       leb (reply (λ s′. s′) s (told s t v) .number) FINISHED ≡ true → Going s t
   told-going below busy Blocked e c = clash c refl
   told-going below busy Fault e c = clash c refl
@@ -326,7 +326,7 @@ module _ (s : Store) (t : ℕ) where
         told′ = subst (λ (v : Verdict). Goes v FINISHED a idle f) e ends;
       }
 
-  can-going : CanStep s t → Going s t
+  pub can-going : CanStep s t → Going s t
   can-going c =
       either-way (ltb t (s .threads))
       (λ b. either-way (isIdle (s .thread t)) (λ x. clash (rw (b, x) at c) refl)
@@ -338,7 +338,7 @@ module _ (s : Store) (t : ℕ) where
   goes-reply v n a r e goes = refl
   goes-reply v n a r e ends = refl
 
-  going-reply : (g : Going s t) → callStore s (step t) ≡ answered s t g
+  pub going-reply : (g : Going s t) → callStore s (step t) ≡ answered s t g
   going-reply g =
       rw (lt-ltb t (s .threads) (g .below), g .busy)
       (goes-reply (verdict s t) (g .number) (g .value) (g .becomes) (g .effect) (g .told′))
@@ -347,12 +347,12 @@ module _ (s : Store) (t : ℕ) where
   goes-moves v n a q r e goes f = f
   goes-moves v n a q r e ends f = f
 
-  going-moves : Inv s → (g : Going s t) → Moves s t (s .thread t) (g .becomes) (g .effect)
+  pub going-moves : Inv s → (g : Going s t) → Moves s t (s .thread t) (g .becomes) (g .effect)
   going-moves I g =
       goes-moves (verdict s t) (g .number) (g .value) (s .thread t) (g .becomes) (g .effect) (g .told′)
       (fine s I t (g .busy))
 
-  goes-unblocked : (v : Verdict) (n a : ℕ) (r : Thread) (e : Effect) → Goes v n a r e → v ≡ Blocked → ⊥
+  pub goes-unblocked : (v : Verdict) (n a : ℕ) (r : Thread) (e : Effect) → Goes v n a r e → v ≡ Blocked → ⊥
   goes-unblocked v n a r e goes x = let z : _≡_ {A = ℕ} 0 1 = cc in omega arith
   goes-unblocked v n a r e ends x = let z : _≡_ {A = ℕ} 0 1 = cc in omega arith
 

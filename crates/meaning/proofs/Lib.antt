@@ -12,3 +12,4 @@ pub mod Level
 pub mod EveryLine
 pub mod Demand1
 pub mod EitherOrder
+pub mod Places

@@ -241,7 +241,7 @@ module _ (t u : ℕ) (apart : t ≡ u → ⊥) where
   tables-commute g h both (Put i v) Keep f x y = refl
   tables-commute g h both (Put i v) (Put j w) f x y = upds-commute f i j v w (λ e. both i x (subst h (sym e) y))
 
-  applies-commute : (s : Store) (r q r′ q′ : Thread) (c d : Effect) → Guards s t r c → Guards s u q d →
+  pub applies-commute : (s : Store) (r q r′ q′ : Thread) (c d : Effect) → Guards s t r c → Guards s u q d →
       Guards (apply s t r′ c) u q d → apply (apply s t r′ c) u q′ d ≡ apply (apply s u q′ d) t r′ c
   applies-commute s r q r′ q′ c d G K L =
       let H-once : heldBy t (s .lock) ≡ true → heldBy u (s .lock) ≡ true → ⊥ = λ x y. apart (held-once t u (s .lock) x y) in
@@ -384,7 +384,7 @@ module _ (s : Store) (I : Inv s) (t u : ℕ) (apart : t ≡ u → ⊥) (others :
 
 -- ---- either order
 
-sameTake-sym : (r q : Thread) → sameTake r q ≡ false → sameTake q r ≡ false
+pub sameTake-sym : (r q : Thread) → sameTake r q ≡ false → sameTake q r ≡ false
 sameTake-sym r q x =
     either-way (sameTake q r)
     (λ y. clash (or-way (takesH q && takesH r) (takesN r && takesLock q (r .n)) y

@@ -13,3 +13,4 @@ pub mod EveryLine
 pub mod Demand1
 pub mod EitherOrder
 pub mod Places
+pub mod Settles

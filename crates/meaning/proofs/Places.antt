@@ -28,7 +28,7 @@ use Rattle.meaning.specs.Step.{block, touches, heads, choosing, perform,
 use Rattle.meaning.specs.Call.{isIdle, storedN, storedC}
 use Rattle.meaning.specs.Schedule.{takesLast, operation}
 use Rattle.meaning.proofs.Words.{either-way, clash, and-left, and-right, or-way, free-held, held-once, naming-not-free}
-use Rattle.meaning.proofs.Invariant.{_–_, never, row, holdsH, ownsHeaders, takesH, takesN, If, Puts, Guards, GuardsHeader, GuardsWear, Inv}
+use Rattle.meaning.proofs.Invariant.{_–_, never, row, holdsH, ownsHeaders, takesH, takesN, Stands, If, Puts, Guards, GuardsHeader, GuardsWear, Inv}
 use Rattle.meaning.proofs.Keeping.{standing, everyLine, everywhere, up, Moves}
 use Rattle.meaning.proofs.Lines.{Fine}
 use Rattle.meaning.proofs.EveryLine.{fine}
@@ -277,6 +277,10 @@ last-rule m op line = not (placedWhere m (standing op line) && lastWhere m (stan
 abbrev work-rule : ℕ → ℕ → Bool
 work-rule op line = (not (eqb op WRITE) || keepsC (shapeAt op line)) && (eqb op LEVEL || keepsN (shapeAt op line))
 
+-- nobody has a place at its first line
+abbrev first-rule : Bool → ℕ → ℕ → Bool
+first-rule m op line = not (eqb line 1) || not (placedWhere m (standing op line))
+
 -- lines only go up
 abbrev up-rule : ℕ → ℕ → Bool
 up-rule op line = ltb line (jump (shapeAt op line) line)
@@ -290,8 +294,8 @@ at-both rule false op line x = and-right (rule true op line) _ x
 
 rules : (everyLine ends-rule ≡ true) × (everyLine (both next-rule) ≡ true) × (everyLine write-rule ≡ true)
     × (everyLine (both last-rule) ≡ true) × (everyLine work-rule ≡ true) × (everyLine up-rule ≡ true)
-    × (everyLine (both take-rule) ≡ true)
-rules = (refl, refl, refl, refl, refl, refl, refl)
+    × (everyLine (both take-rule) ≡ true) × (everyLine (both first-rule) ≡ true)
+rules = (refl, refl, refl, refl, refl, refl, refl, refl)
 
 -- ---- where levelling branches
 
@@ -441,6 +445,13 @@ last-unplaced s I t x =
     (λ y. clash (rw (y, x) at (at-both last-rule (movesNow s) (s .thread t .op) (s .thread t .line)
     (everywhere (both last-rule) (rules .3) (s .thread t) (I .stands t)))) refl)
     (λ y. y)
+
+-- who has just begun has none
+pub first-unplaced : (s : Store) (r : Thread) → Stands r → r .line ≡ 1 → placed s r ≡ false
+first-unplaced s r st l =
+    not-true (placed s r)
+    (rw (eq-eqb (r .line) 1 l) at (at-both first-rule (movesNow s) (r .op) (r .line)
+    (everywhere (both first-rule) (rules .7) r st)))
 
 -- ---- who has its place can step
 

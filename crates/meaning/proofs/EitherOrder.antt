@@ -90,7 +90,7 @@ need-alike true false x y e = absurd (y refl)
 need-alike false true x y e = absurd (x refl)
 need-alike false false x y e = refl
 
-choosing-alike : (s s′ : Store) (r : Thread) → s′ .wear ≡ s .wear → s′ .distance ≡ s .distance → (to from : Found) →
+pub choosing-alike : (s s′ : Store) (r : Thread) → s′ .wear ≡ s .wear → s′ .distance ≡ s .distance → (to from : Found) →
     choosing s′ r to from ≡ choosing s r to from
 choosing-alike s s′ r w d Nobody from = refl
 choosing-alike s s′ r w d (At to) from = rw (w, d)

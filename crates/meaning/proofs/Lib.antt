@@ -14,3 +14,4 @@ pub mod Demand1
 pub mod EitherOrder
 pub mod Places
 pub mod Settles
+pub mod Alone

@@ -40,7 +40,7 @@ use Rattle.meaning.proofs.Settles.{cleared, stepped, answering, Settles
 -- ---- what is said
 
 -- a lock or owner word, if it is t's
-abbrev mine : ℕ → ℕ → ℕ
+abbrev pub mine : ℕ → ℕ → ℕ
 mine t w = cond (heldBy t w) w none
 
 abbrev pub alone : ℕ → Store → Store
@@ -119,9 +119,11 @@ entry-alone about t Keep f x = refl
 entry-alone about t (Put i w) f x =
     fun-ext (λ k. either-way (eqb i k) (λ e. rw e (passes-mine t (f i) w x)) (λ e. rw e))
 
-threads-alone : (t : ℕ) (f : ℕ → Thread) (r′ : Thread) →
-    upd (λ v. cond (eqb t v) (f v) idle) t r′ ≡ (λ v. cond (eqb t v) (upd f t r′ v) idle)
-threads-alone t f r′ = fun-ext (λ v. either-way (eqb t v) (λ e. rw e) (λ e. rw e))
+-- t's new record, where nobody else is at work
+pub threads-alone : (t : ℕ) (f g : ℕ → Thread) (r′ : Thread) → g t ≡ r′ →
+    upd (λ v. cond (eqb t v) (f v) idle) t r′ ≡ (λ v. cond (eqb t v) (g v) idle)
+threads-alone t f g r′ is =
+    fun-ext (λ v. either-way (eqb t v) (λ e. rw (e, ← eqb-true t v e) (sym is)) (λ e. rw e))
 
 apply-alone : (s : Store) (t : ℕ) (r r′ : Thread) (e : Effect) → Guards s t r e →
     apply (alone t s) t r′ e ≡ alone t (apply s t r′ e)
@@ -133,7 +135,7 @@ apply-alone s t r r′ e G =
       distance = s .distance;
       lock = word-alone (takesH r ≡ true) t (e .lock) (s .lock) (G .lock) i;
       owner = word-alone Unit t (e .owner) (s .owner) (G .owner) i;
-      thread = threads-alone t (s .thread) r′ i;
+      thread = threads-alone t (s .thread) (upd (s .thread) t r′) r′ (upd-same (s .thread) t r′) i;
       map = put (e .map) (s .map);
       locks = entry-alone (λ k. takesLock r k ≡ true) t (e .locks) (s .locks) (G .locks) i;
       header = put (e .header) (s .header);

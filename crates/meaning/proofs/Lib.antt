@@ -15,3 +15,5 @@ pub mod EitherOrder
 pub mod Places
 pub mod Settles
 pub mod Alone
+pub mod Runs
+pub mod Replay

@@ -1,0 +1,50 @@
+-- Schedules one after the other: what they leave, answer, order and begin.
+-- Assumes nothing.
+use mathlib.Core.Path.{_≡_, refl, sym, ap, _∙_}
+use mathlib.Core.Bool.{Bool, true, false, _&&_}
+use mathlib.Core.List.{List, [], _∷_, _++_}
+use Prim.Native.Nat.{ℕ, zero, suc, _+_}
+use native.Mathlib.Omega.{arith}
+use lib.Dec.{eqb}
+use Rattle.meaning.specs.Numbers.{FINISHED}
+use Rattle.meaning.specs.Store.{Store}
+use Rattle.meaning.specs.Call.{Reply, Entry, begin, step}
+use Rattle.meaning.specs.Schedule.{Operation, Answered, emit, run, finishing, finishedBy, steps, longest, whole}
+
+pub emit-append : {A : Type 0} (b : Bool) (x : A) (l m : List A) → emit b x l ++ m ≡ emit b x (l ++ m)
+emit-append true x l m = refl
+emit-append false x l m = refl
+
+pub steps-append : (k t : ℕ) (w : List Entry) → steps k t w ≡ steps k t [] ++ w
+steps-append zero t w = refl
+steps-append (suc k) t w = ap (λ (v : List Entry). step t ∷ v) (steps-append k t w)
+
+-- so many steps are as many and the others
+pub steps-split : (i j k t : ℕ) → i ≡ j + k → (w : List Entry) → steps i t w ≡ steps j t [] ++ steps k t w
+steps-split i zero k t e w = let x : i ≡ k = omega arith in ap (λ (i : ℕ). steps i t w) x
+steps-split zero (suc j) k t e w = absurd (omega arith)
+steps-split (suc i) (suc j) k t e w = ap (λ (v : List Entry). step t ∷ v) (steps-split i j k t (omega arith) w)
+
+pub whole-append : (o : Operation) (w : List Entry) → whole o w ≡ whole o [] ++ w
+whole-append o w =
+    ap (λ (v : List Entry). begin (o .thread) (o .op) (o .number) (o .word) ∷ v) (steps-append longest (o .thread) w)
+
+module _ {S : Type 0} (call : S → Entry → Reply S) where
+  pub run-append : (s : S) (v w : List Entry) → run call s (v ++ w) ≡ run call (run call s v) w
+  run-append s [] w = refl
+  run-append s (e ∷ v) w = run-append (call s e .after) v w
+
+module _ {S : Type 0} (call : S → Entry → Reply S) (seen : S → Store) where
+  pub finishing-append : (s : S) (t : ℕ) (e : Entry) (l m : List Answered) →
+      finishing call seen s t e l ++ m ≡ finishing call seen s t e (l ++ m)
+  finishing-append s t (begin u op n c) l m = refl
+  finishing-append s t (step u) l m =
+      emit-append (eqb (call s (step u) .number) FINISHED && eqb u t)
+      (record { op = seen s .thread u .op; value = call s (step u) .value }) l m
+
+  pub finishedBy-append : (s : S) (t : ℕ) (v w : List Entry) →
+      finishedBy call seen s t (v ++ w) ≡ finishedBy call seen s t v ++ finishedBy call seen (run call s v) t w
+  finishedBy-append s t [] w = refl
+  finishedBy-append s t (e ∷ v) w =
+      ap (λ (l : List Answered). finishing call seen s t e l) (finishedBy-append (call s e .after) t v w)
+      ∙ sym (finishing-append s t e (finishedBy call seen (call s e .after) t v) _)

@@ -238,7 +238,7 @@ ends-as k t x = run callStore x (steps k t [])
 abbrev pub ends-with : ℕ → ℕ → Store → ℕ → List Answered
 ends-with k t x u = finishedBy callStore (λ s. s) x u (steps k t [])
 
-lines-end : (s : Store) → Inv s → (t : ℕ) → s .thread t .line < longest + 1
+pub lines-end : (s : Store) → Inv s → (t : ℕ) → s .thread t .line < longest + 1
 lines-end s I t =
     let b = leb-true (s .thread t .line) longest (everywhere (λ op line. leb line longest) refl (s .thread t) (I .stands t)) in
     omega arith
@@ -271,7 +271,7 @@ next-within k s t has b g (went _ w) =
     (rw (upd-same (s .thread) t (g .becomes)) (let up = w .up in omega arith))
 next-within k s t has b g (over _ is _) = resting (rw (upd-same (s .thread) t (g .becomes), is))
 
-next-nobody : (s : Store) → Inv s → (t : ℕ) (g : Going s t) → Nobody-but t s → Nobody-but t (left-by s t g)
+pub next-nobody : (s : Store) → Inv s → (t : ℕ) (g : Going s t) → Nobody-but t s → Nobody-but t (left-by s t g)
 next-nobody s I t g nobody v apart =
     rw (upd-other (s .thread) t v (g .becomes) apart)
     (placed-kept s I t (g .becomes) (g .effect) (going-moves s t I g) v apart ∙ nobody v apart)

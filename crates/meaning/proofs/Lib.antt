@@ -17,3 +17,4 @@ pub mod Settles
 pub mod Alone
 pub mod Runs
 pub mod Replay
+pub mod LastLock

@@ -38,9 +38,9 @@ use Rattle.meaning.proofs.Alone.{alone, mine, threads-alone}
 abbrev went-to : Store → Reply Store
 went-to x = record { number = WENT; value = 0; after = x }
 
-record Plays (x : Store) (w : List Entry) (y : Store) : Type 0 where
-  leaves : run callStore x w ≡ y
-  silent : (u : ℕ) → finishedBy callStore (λ s. s) x u w ≡ []
+pub record Plays (x : Store) (w : List Entry) (y : Store) : Type 0 where
+  pub leaves : run callStore x w ≡ y
+  pub silent : (u : ℕ) → finishedBy callStore (λ s. s) x u w ≡ []
 
 plays-none : (x : Store) → Plays x [] x
 plays-none x = record { leaves = refl; silent = λ u. refl }
@@ -134,7 +134,7 @@ alone-solo s I t r is locks own =
 pub record Replayed (s : Store) (t : ℕ) : Type 0 where
   pub before : ℕ
   pub line : s .thread t .line ≡ before + 1
-  plays : Plays (cleared s)
+  pub plays : Plays (cleared s)
       (begin t (s .thread t .op) (storedN (s .thread t .op) (s .thread t .n)) (storedC (s .thread t .op) (s .thread t .c))
       ∷ steps before t []) (alone t s)
 

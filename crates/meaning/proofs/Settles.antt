@@ -62,6 +62,13 @@ pub data Settles : Store → Store → (ℕ → List Answered) → Type 0 where
   more : {s d : Store} {a b : ℕ → List Answered} → (t : ℕ) → placed s (s .thread t) ≡ true → Settles (stepped s t) d b →
       ((u : ℕ) → a u ≡ answering s t u (b u)) → Settles s d a
 
+pub settles-alike : {s d d′ : Store} {a a′ : ℕ → List Answered} → Settles s d a → d′ ≡ d → ((u : ℕ) → a′ u ≡ a u) → Settles s d′ a′
+settles-alike {s} {d} {d′} {a} {a′} S to is = subst (λ (x : Store). Settles s x a′) (sym to) (go S)
+  where
+    go : Settles s d a → Settles s d a′
+    go (rest nobody to none) = rest nobody to (λ u. is u ∙ none u)
+    go (more t has S′ are) = more t has S′ (λ u. is u ∙ are u)
+
 -- ---- another thread moves first
 
 -- thread t moves on with record r′ and an effect; thread u has its place

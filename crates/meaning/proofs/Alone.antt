@@ -155,9 +155,12 @@ module _ (s : Store) (I : Inv s) (t : ℕ) (g : Going s t) where
         becomes = g .becomes;
         effect = g .effect;
         told′ =
-            rw (same t, perform-alone s t (s .thread t) (actAt (s .thread t .op) (s .thread t .line))
-            (goes-unblocked s t (verdict s t) (g .number) (g .value) (g .becomes) (g .effect) (g .told′))
-            (no-fault s I t (g .below) (g .busy))) (g .told′);
+            rw (
+              same t,
+              perform-alone s t (s .thread t) (actAt (s .thread t .op) (s .thread t .line))
+                  (goes-unblocked s t (verdict s t) (g .number) (g .value) (g .becomes) (g .effect) (g .told′))
+                  (no-fault s I t (g .below) (g .busy)),
+            ) (g .told′);
       }
 
   pub step-alone : callStore (alone t s) (step t) ≡

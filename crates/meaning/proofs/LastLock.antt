@@ -24,7 +24,7 @@ use Rattle.meaning.proofs.Alone.{alone, lines-end, next-nobody, step-al
 use Rattle.meaning.proofs.Runs.{emit-append, steps-split, run-append, finishedBy-append}
 use Rattle.meaning.proofs.Replay.{Replayed, last-replayed}
 
-abbrev answers-of : Store → List Entry → ℕ → List Answered
+abbrev pub answers-of : Store → List Entry → ℕ → List Answered
 answers-of s w u = finishedBy callStore (λ s. s) s u w
 
 -- the operation of a thread's record

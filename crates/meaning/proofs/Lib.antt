@@ -18,3 +18,4 @@ pub mod Alone
 pub mod Runs
 pub mod Replay
 pub mod LastLock
+pub mod OneAtATime

@@ -2,14 +2,14 @@
 -- Assumes nothing.
 use mathlib.Core.Path.{_≡_, refl, sym, ap, _∙_}
 use mathlib.Core.Bool.{Bool, true, false, _&&_}
-use mathlib.Core.List.{List, [], _∷_, _++_}
+use mathlib.Core.List.{List, [], _∷_, _++_, append-assoc}
 use Prim.Native.Nat.{ℕ, zero, suc, _+_}
 use native.Mathlib.Omega.{arith}
 use lib.Dec.{eqb}
-use Rattle.meaning.specs.Numbers.{FINISHED}
+use Rattle.meaning.specs.Numbers.{WENT, FINISHED}
 use Rattle.meaning.specs.Store.{Store}
 use Rattle.meaning.specs.Call.{Reply, Entry, begin, step}
-use Rattle.meaning.specs.Schedule.{Operation, Answered, emit, run, finishing, finishedBy, steps, longest, whole}
+use Rattle.meaning.specs.Schedule.{Operation, Answered, emit, takesLast, operation, run, placing, finishing, finishedBy, steps, longest, whole, serial}
 
 pub emit-append : {A : Type 0} (b : Bool) (x : A) (l m : List A) → emit b x l ++ m ≡ emit b x (l ++ m)
 emit-append true x l m = refl
@@ -35,6 +35,12 @@ module _ {S : Type 0} (call : S → Entry → Reply S) where
   run-append s (e ∷ v) w = run-append (call s e .after) v w
 
 module _ {S : Type 0} (call : S → Entry → Reply S) (seen : S → Store) where
+  pub placing-append : (s : S) (e : Entry) (l m : List Operation) → placing call seen s e l ++ m ≡ placing call seen s e (l ++ m)
+  placing-append s (begin u op n c) l m = refl
+  placing-append s (step u) l m =
+      emit-append (eqb (call s (step u) .number) WENT && takesLast (seen s) (seen s .thread u))
+      (operation u (seen s .thread u .op) (seen s .thread u .n) (seen s .thread u .c)) l m
+
   pub finishing-append : (s : S) (t : ℕ) (e : Entry) (l m : List Answered) →
       finishing call seen s t e l ++ m ≡ finishing call seen s t e (l ++ m)
   finishing-append s t (begin u op n c) l m = refl
@@ -48,3 +54,9 @@ module _ {S : Type 0} (call : S → Entry → Reply S) (seen : S → Store) wher
   finishedBy-append s t (e ∷ v) w =
       ap (λ (l : List Answered). finishing call seen s t e l) (finishedBy-append (call s e .after) t v w)
       ∙ sym (finishing-append s t e (finishedBy call seen (call s e .after) t v) _)
+
+pub serial-append : (p q : List Operation) → serial (p ++ q) ≡ serial p ++ serial q
+serial-append [] q = refl
+serial-append (o ∷ p) q =
+    whole-append o (serial (p ++ q)) ∙ ap (λ (w : List Entry). whole o [] ++ w) (serial-append p q)
+    ∙ sym (append-assoc (whole o []) (serial p) (serial q)) ∙ ap (λ (w : List Entry). w ++ serial q) (sym (whole-append o (serial p)))

@@ -127,11 +127,11 @@ module _ (t : ℕ) (r′ : Thread) (e : Effect) (d d′ : Store) (Can : Store �
     (below : (s : Store) → Can s → t < s .threads)
     (still : (s : Store) → Inv s → Can s → (u : ℕ) → (t ≡ u → ⊥) → placed s (s .thread u) ≡ true → Can (stepped s u))
     (last : (s : Store) (a : ℕ → List Answered) → Inv s → Can s → ((v : ℕ) → placed s (s .thread v) ≡ false) →
-        d ≡ cleared s → ((u : ℕ) → a u ≡ []) → Moved (apply s t r′ e) d′ Rel a)
+    d ≡ cleared s → ((u : ℕ) → a u ≡ []) → Moved (apply s t r′ e) d′ Rel a)
     (own : (s : Store) (a b : ℕ → List Answered) → Inv s → Can s → placed s (s .thread t) ≡ true → Settles (stepped s t) d b →
-        ((u : ℕ) → a u ≡ answering s t u (b u)) → Moved (apply s t r′ e) d′ Rel a)
+    ((u : ℕ) → a u ≡ answering s t u (b u)) → Moved (apply s t r′ e) d′ Rel a)
     (others : (v u : ℕ) → (t ≡ v → ⊥) → (b : Bool) (x : Answered) (l l′ : List Answered) → Rel u l l′ →
-        Rel u (emit (b && eqb v u) x l) (emit (b && eqb v u) x l′)) where
+    Rel u (emit (b && eqb v u) x l) (emit (b && eqb v u) x l′)) where
   -- u, which has its place, steps after t's move as before it
   step-over : (s : Store) (a b : ℕ → List Answered) → Inv s → Can s → (u : ℕ) → (t ≡ u → ⊥) → placed s (s .thread u) ≡ true →
       Moved (apply (stepped s u) t r′ e) d′ Rel b → ((v : ℕ) → a v ≡ answering s u v (b v)) → Moved (apply s t r′ e) d′ Rel a

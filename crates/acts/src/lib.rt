@@ -5,6 +5,7 @@ ghost use mathlib.Core.Bool.{cond};
 ghost use Prim.Native.Nat.{ℕ, _+_, _<_, _≤_};
 ghost use Rattle.meaning.specs.Programs.{actAt, lastLine};
 ghost use Rattle.meaning.specs.Step.{goto as gotoOf, onward as onwardOf, setN, setC, setP, setQ, setH, block as blockOf, nothing as nothingOf, onLock, onOwner, onMap, onLocks, onHeader, onContent, onFreed, onOwn, need as needOf, next as nextOf, worn as wornOf, moved as movedOf, answer as answerOf};
+
 use meaning::Act;
 use meaning::Answer;
 use meaning::Effect;

@@ -19,3 +19,4 @@ pub mod Runs
 pub mod Replay
 pub mod LastLock
 pub mod OneAtATime
+pub mod EachOnce

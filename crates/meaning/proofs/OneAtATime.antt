@@ -30,7 +30,7 @@ use Rattle.meaning.proofs.EitherOrder.{Going, left-by, can-going, going
 use Rattle.meaning.proofs.Places.{Went, went, over, Came, going-came, last-unplaced, placed, placed-going, placed-kept}
 use Rattle.meaning.proofs.Settles.{cleared, stepped, answering, Settles, rest, more, settles-alike, Moved, Ready, Begins, early-settles, begin-settles, late-settles}
 use Rattle.meaning.proofs.LastLock.{work, answers-of, last-settles}
-use Rattle.meaning.proofs.Runs.{emit-append, placing-append, finishing-append, run-append, finishedBy-append, serial-append}
+use Rattle.meaning.proofs.Runs.{step-stays, refused-number, emit-append, placing-append, finishing-append, run-append, finishedBy-append, serial-append}
 
 -- ---- what is said
 
@@ -99,29 +99,6 @@ module _ (s : Store) (I : Inv s) (d : Store) (a : ℕ → List Answered) (S : Se
       (λ x. rw x (same-after s d a S))))
       (λ b. rw b (same-after s d a S))
 
-  -- a step that is refused or waits
-  told-stays : (t : ℕ) (v : Verdict) → leb (reply (λ s′. s′) s (told s t v) .number) FINISHED ≡ false →
-      reply (λ s′. s′) s (told s t v) .after ≡ s
-  told-stays t Blocked x = refl
-  told-stays t Fault x = refl
-  told-stays t (Go r e) x = clash refl x
-  told-stays t (Done v e) x = clash refl x
-
-  step-stays : (P : Store → Type 0) (t : ℕ) → leb (callStore s (step t) .number) FINISHED ≡ false → P s →
-      P (callStore s (step t) .after)
-  step-stays P t x p =
-      either-way (ltb t (s .threads))
-      (λ b. rw b (either-way (isIdle (s .thread t)) (λ y. rw y p)
-      (λ y. rw y (subst P (sym (told-stays t (verdict s t) (rw (b, y) at x))) p))))
-      (λ b. rw b p)
-
-  -- a number that is neither WENT nor FINISHED
-  refused-number : (t k : ℕ) → leb k FINISHED ≡ true → leb (callStore s (step t) .number) FINISHED ≡ false →
-      eqb (callStore s (step t) .number) k ≡ false
-  refused-number t k small x =
-      either-way (eqb (callStore s (step t) .number) k)
-      (λ y. clash small (subst (λ (m : ℕ). leb m FINISHED ≡ false) (eqb-true (callStore s (step t) .number) k y) x)) (λ y. y)
-
   module _ (t : ℕ) (g : Going s t) where
     abbrev r : Thread
     r = s .thread t
@@ -180,9 +157,9 @@ module _ (s : Store) (I : Inv s) (d : Store) (a : ℕ → List Answered) (S : Se
   call-after (begin t op n c) = begin-after t op n c
   call-after (step t) =
       either-way (leb (callStore s (step t) .number) FINISHED) (λ c. going-after t (can-going s t c))
-      (λ x. step-stays (λ y. After y d a (placings (step t)) (finishings (step t))) t x
+      (λ x. step-stays s (λ y. After y d a (placings (step t)) (finishings (step t))) t x
       (after-alike s d a [] (placings (step t)) (λ u. []) (finishings (step t)) (same-after s d a S)
-      (rw (refused-number t WENT refl x)) (λ u. rw (refused-number t FINISHED refl x))))
+      (rw (refused-number s t WENT refl x)) (λ u. rw (refused-number s t FINISHED refl x))))
 
 -- ---- a schedule
 

@@ -1,15 +1,20 @@
--- Schedules one after the other: what they leave, answer, order and begin.
+-- Schedules one after the other: what they leave, answer and place in the order; and steps that are refused.
 -- Assumes nothing.
-use mathlib.Core.Path.{_≡_, refl, sym, ap, _∙_}
+use mathlib.Core.Path.{_≡_, refl, sym, ap, _∙_, subst}
 use mathlib.Core.Bool.{Bool, true, false, _&&_}
 use mathlib.Core.List.{List, [], _∷_, _++_, append-assoc}
 use Prim.Native.Nat.{ℕ, zero, suc, _+_}
 use native.Mathlib.Omega.{arith}
-use lib.Dec.{eqb}
+use lib.Dec.{eqb, ltb, leb}
+use borrow.Author.Tests.{eqb-true}
+use Rattle.meaning.specs.declared.Verdict.{Verdict}
+use Rattle.meaning.specs.declared.Verdict.the-variants.{Blocked, Fault, Go, Done}
 use Rattle.meaning.specs.Numbers.{WENT, FINISHED}
 use Rattle.meaning.specs.Store.{Store}
-use Rattle.meaning.specs.Call.{Reply, Entry, begin, step}
-use Rattle.meaning.specs.Schedule.{Operation, Answered, emit, takesLast, operation, run, placing, finishing, finishedBy, steps, longest, whole, serial}
+use Rattle.meaning.specs.Step.{verdict}
+use Rattle.meaning.specs.Call.{Reply, Entry, begin, step, callStore, reply, told, isIdle}
+use Rattle.meaning.proofs.Words.{either-way, clash}
+use Rattle.meaning.specs.Schedule.{Operation, Answered, emit, takesLast, operation, run, placing, starting, finishing, finishedBy, steps, longest, whole, serial}
 
 pub emit-append : {A : Type 0} (b : Bool) (x : A) (l m : List A) → emit b x l ++ m ≡ emit b x (l ++ m)
 emit-append true x l m = refl
@@ -41,6 +46,12 @@ module _ {S : Type 0} (call : S → Entry → Reply S) (seen : S → Store) wher
       emit-append (eqb (call s (step u) .number) WENT && takesLast (seen s) (seen s .thread u))
       (operation u (seen s .thread u .op) (seen s .thread u .n) (seen s .thread u .c)) l m
 
+  pub starting-append : (s : S) (t : ℕ) (e : Entry) (l m : List Operation) →
+      starting call seen s t e l ++ m ≡ starting call seen s t e (l ++ m)
+  starting-append s t (begin u op n c) l m =
+      emit-append (eqb (call s (begin u op n c) .number) WENT && eqb u t) (operation u op n c) l m
+  starting-append s t (step u) l m = refl
+
   pub finishing-append : (s : S) (t : ℕ) (e : Entry) (l m : List Answered) →
       finishing call seen s t e l ++ m ≡ finishing call seen s t e (l ++ m)
   finishing-append s t (begin u op n c) l m = refl
@@ -60,3 +71,28 @@ serial-append [] q = refl
 serial-append (o ∷ p) q =
     whole-append o (serial (p ++ q)) ∙ ap (λ (w : List Entry). whole o [] ++ w) (serial-append p q)
     ∙ sym (append-assoc (whole o []) (serial p) (serial q)) ∙ ap (λ (w : List Entry). w ++ serial q) (sym (whole-append o (serial p)))
+
+-- ---- a step that is refused or waits leaves the store as it was
+
+module _ (s : Store) where
+  told-stays : (t : ℕ) (v : Verdict) → leb (reply (λ s′. s′) s (told s t v) .number) FINISHED ≡ false →
+      reply (λ s′. s′) s (told s t v) .after ≡ s
+  told-stays t Blocked x = refl
+  told-stays t Fault x = refl
+  told-stays t (Go r e) x = clash refl x
+  told-stays t (Done v e) x = clash refl x
+
+  pub step-stays : (P : Store → Type 0) (t : ℕ) → leb (callStore s (step t) .number) FINISHED ≡ false → P s →
+      P (callStore s (step t) .after)
+  step-stays P t x p =
+      either-way (ltb t (s .threads))
+      (λ b. rw b (either-way (isIdle (s .thread t)) (λ y. rw y p)
+      (λ y. rw y (subst P (sym (told-stays t (verdict s t) (rw (b, y) at x))) p))))
+      (λ b. rw b p)
+
+  -- a number that is neither WENT nor FINISHED
+  pub refused-number : (t k : ℕ) → leb k FINISHED ≡ true → leb (callStore s (step t) .number) FINISHED ≡ false →
+      eqb (callStore s (step t) .number) k ≡ false
+  refused-number t k small x =
+      either-way (eqb (callStore s (step t) .number) k)
+      (λ y. clash small (subst (λ (m : ℕ). leb m FINISHED ≡ false) (eqb-true (callStore s (step t) .number) k y) x)) (λ y. y)

@@ -20,3 +20,4 @@ pub mod Replay
 pub mod LastLock
 pub mod OneAtATime
 pub mod EachOnce
+pub mod OneAtATimeSamples

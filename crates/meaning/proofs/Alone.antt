@@ -2,9 +2,8 @@
 -- its place in the order comes there to what it comes to in s, and within as many steps as the longest program has lines.
 -- Assumes nothing.
 use mathlib.Core.Path.{_≡_, refl, sym, ap, _∙_, subst, fun-ext}
-use mathlib.Core.Bool.{Bool, true, false, cond, _&&_, _||_}
-use mathlib.Core.List.{List, [], _∷_}
-use mathlib.Core.Logic.{_⊎_, inl, inr}
+use mathlib.Core.Bool.{true, false, cond}
+use mathlib.Core.List.{List, []}
 use Prim.Native.Nat.{ℕ, zero, suc, _+_, _<_}
 use native.Mathlib.Omega.{arith}
 use lib.Dec.{eqb, ltb, leb}
@@ -17,25 +16,22 @@ use Rattle.meaning.specs.declared.Word.the-variants.{Stay, Become}
 use Rattle.meaning.specs.declared.Entry.{Entry}
 use Rattle.meaning.specs.declared.Entry.the-variants.{Keep, Put}
 use Rattle.meaning.specs.declared.Effect.{Effect}
-use Rattle.meaning.specs.declared.Verdict.{Verdict}
 use Rattle.meaning.specs.declared.Verdict.the-variants.{Blocked, Fault}
 use Rattle.meaning.specs.Table.{upd}
-use Rattle.meaning.specs.Numbers.{WENT, FINISHED}
 use Rattle.meaning.specs.Store.{Store, idle}
-use Rattle.meaning.specs.Holding.{none, free, by, heldBy}
+use Rattle.meaning.specs.Holding.{none, free, heldBy}
 use Rattle.meaning.specs.Programs.{actAt}
-use Rattle.meaning.specs.Choosing.{toBlock, leastWorn}
 use Rattle.meaning.specs.Step.{block, perform, verdict, become, put, apply}
 use Rattle.meaning.specs.Call.{Reply, step, callStore, isIdle}
 use Rattle.meaning.specs.Schedule.{Answered, run, finishedBy, steps, longest}
-use Rattle.meaning.proofs.Words.{same, either-way, clash, by-held, none-held, upd-same, upd-other}
+use Rattle.meaning.proofs.Words.{same, either-way, by-held, none-held, upd-same, upd-other}
 use Rattle.meaning.proofs.Invariant.{takesH, takesLock, Passes, takes, gives, Changes, Puts, Guards, Inv}
-use Rattle.meaning.proofs.Keeping.{everywhere, moves-inv}
+use Rattle.meaning.proofs.Keeping.{everywhere}
 use Rattle.meaning.proofs.EveryLine.{idle-is}
 use Rattle.meaning.proofs.Demand1.{inv-call, no-fault}
-use Rattle.meaning.proofs.EitherOrder.{choosing-alike, Going, left-by, answered, going-reply, going-moves, goes-unblocked}
+use Rattle.meaning.proofs.EitherOrder.{choosing-alike, Going, left-by, going-reply, going-moves, goes-unblocked}
 use Rattle.meaning.proofs.Places.{went, over, Came, going-came, placed, placed-going, placed-kept}
-use Rattle.meaning.proofs.Settles.{cleared, stepped, answering, Settles, rest, more}
+use Rattle.meaning.proofs.Settles.{cleared, stepped, stepped-is, answering, Settles, rest, more}
 
 -- ---- what is said
 
@@ -177,7 +173,7 @@ module _ (s : Store) (I : Inv s) (t : ℕ) (g : Going s t) where
   pub stepped-alone : stepped (alone t s) t ≡ alone t (stepped s t)
   stepped-alone =
       ap (λ (x : Reply Store). x .after) step-alone
-      ∙ sym (ap (λ (x : Reply Store). alone t (x .after)) (going-reply s t g))
+      ∙ sym (ap (alone t) (stepped-is s t g))
 
 -- ---- a thread at rest
 
@@ -286,7 +282,7 @@ placed-settles zero s I t nobody (going has b) = absurd (let e = lines-end s I t
 placed-settles (suc k) s I t nobody (resting x) = idle-settles (suc k) s I t nobody x
 placed-settles (suc k) s I t nobody (going has b) =
     let g = placed-going s I t has in
-    let to : left-by s t g ≡ stepped s t = sym (ap (λ (x : Reply Store). x .after) (going-reply s t g)) in
+    let to : left-by s t g ≡ stepped s t = sym (stepped-is s t g) in
     step-settles k s I t has (placed-settles k (stepped s t) (inv-call s I (step t)) t
     (subst (Nobody-but t) to (next-nobody s I t g nobody))
     (subst (Within t k) to (next-within k s t has b g (going-came s I t g))))

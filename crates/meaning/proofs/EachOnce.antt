@@ -7,7 +7,7 @@ use mathlib.Core.Path.{_≡_, refl, sym, ap, _∙_, subst}
 use mathlib.Core.Bool.{Bool, true, false, not, _&&_, _||_, and-true, and-false, or-false}
 use mathlib.Core.List.{List, [], _∷_, _++_, map, map-append, append-nil, append-assoc}
 use mathlib.Core.Logic.{_⊎_, inl, inr}
-use Prim.Native.Nat.{ℕ, _<_}
+use Prim.Native.Nat.{ℕ}
 use native.Mathlib.Omega.{arith}
 use lib.Dec.{eqb, ltb, leb}
 use borrow.Author.Tests.{eqb-true, eqb-false, ne-eqb}
@@ -18,16 +18,16 @@ use Rattle.meaning.specs.Limits.{within, inLimits}
 use Rattle.meaning.specs.Store.{Store, idle, fresh}
 use Rattle.meaning.specs.Programs.{WRITE, LEVEL, lastLine, actAt, lastTake, unmovedTake}
 use Rattle.meaning.specs.Step.{nothing, apply}
-use Rattle.meaning.specs.Call.{Reply, Entry, begin, step, callStore, isIdle, begun, storedN, storedC}
+use Rattle.meaning.specs.Call.{Entry, begin, step, callStore, isIdle, begun, storedN, storedC}
 use Rattle.meaning.specs.Schedule.{Operation, Answered, operation, emit, takesLast, run, placing, starting, finishing, order, begunBy, finishedBy}
-use Rattle.meaning.proofs.Words.{same, either-way, clash, and-left, and-right, or-way, within-true, upd-same, upd-other}
+use Rattle.meaning.proofs.Words.{same, either-way, and-left, and-right, or-way, within-true, upd-same, upd-other}
 use Rattle.meaning.proofs.Invariant.{Inv}
 use Rattle.meaning.proofs.Lines.{_▸_, from-at}
 use Rattle.meaning.proofs.EveryLine.{idle-is, open-line, begins}
 use Rattle.meaning.proofs.Demand1.{inv-fresh, inv-call}
 use Rattle.meaning.proofs.EitherOrder.{Going, left-by, can-going, going-reply, going-moves}
 use Rattle.meaning.proofs.Places.{Went, went, over, Came, going-came, first-unplaced, last-unplaced, placed, placed-kept}
-use Rattle.meaning.proofs.Settles.{stepped}
+use Rattle.meaning.proofs.Settles.{stepped, stepped-is}
 use Rattle.meaning.proofs.LastLock.{work}
 use Rattle.meaning.proofs.Runs.{step-stays, refused-number, emit-append, placing-append, starting-append, finishing-append}
 
@@ -68,7 +68,8 @@ last-takes s I t busy takes =
     let op = within-true WRITE LEVEL (r .op) (and-left _ (within 1 (lastLine (r .op)) (r .line)) on) in
     or-way (eqb (r .line) (lastTake (r .op))) _ takes
     (λ x. inr (rw (eqb-true (r .line) (lastTake (r .op)) x)
-    (from-at (λ op. actAt op (lastTake op) ≡ TakeN) LEVEL WRITE (refl ▸ refl ▸ refl ▸ refl ▸ tt) (r .op) (omega arith) (omega arith))))
+    (from-at (λ op. actAt op (lastTake op) ≡ TakeN) LEVEL WRITE (refl ▸ refl ▸ refl ▸ refl ▸ tt) (r .op)
+    (omega arith) (omega arith))))
     (λ x.
     let y = and-left (eqb (r .op) LEVEL && eqb (r .line) unmovedTake) _ x in
     inl (rw (
@@ -90,8 +91,10 @@ ofThread-append u (o ∷ l) m =
 
 -- what each call adds to the one list and to the other, with what is still open before and after it
 module _ {A : Type 0} (still : Store → List A) (f g : Store → Entry → List A) (F G : Store → List Entry → List A)
-    (F-none : (s : Store) → F s [] ≡ []) (F-more : (s : Store) (e : Entry) (w : List Entry) → F s (e ∷ w) ≡ f s e ++ F (callStore s e .after) w)
-    (G-none : (s : Store) → G s [] ≡ []) (G-more : (s : Store) (e : Entry) (w : List Entry) → G s (e ∷ w) ≡ g s e ++ G (callStore s e .after) w)
+    (F-none : (s : Store) → F s [] ≡ [])
+    (F-more : (s : Store) (e : Entry) (w : List Entry) → F s (e ∷ w) ≡ f s e ++ F (callStore s e .after) w)
+    (G-none : (s : Store) → G s [] ≡ [])
+    (G-more : (s : Store) (e : Entry) (w : List Entry) → G s (e ∷ w) ≡ g s e ++ G (callStore s e .after) w)
     (one : (s : Store) → Inv s → (e : Entry) → still s ++ f s e ≡ g s e ++ still (callStore s e .after)) where
   telescope : (w : List Entry) (s : Store) → Inv s → still s ++ F s w ≡ G s w ++ still (run callStore s w)
   telescope [] s I = rw (F-none s, G-none s) (append-nil (still s))
@@ -121,8 +124,8 @@ placedOp-is : (u : ℕ) (s : Store) (r : Thread) (b : Bool) → s .thread u ≡ 
 placedOp-is u s r b is place = rw (is, place)
 
 -- from what u was to what it is
-sees : (u : ℕ) (s s′ : Store) (r r′ : Thread) (b b′ : Bool) (x y : List Operation) (z : List Answered) → s .thread u ≡ r → placed s r ≡ b →
-    s′ .thread u ≡ r′ → placed s′ r′ ≡ b′ →
+sees : (u : ℕ) (s s′ : Store) (r r′ : Thread) (b b′ : Bool) (x y : List Operation) (z : List Answered) →
+    s .thread u ≡ r → placed s r ≡ b → s′ .thread u ≡ r′ → placed s′ r′ ≡ b′ →
     emit (not (isIdle r) && not b) (work u r) [] ++ x ≡ y ++ emit (not (isIdle r′) && not b′) (work u r′) [] →
     emit b (r .op) [] ++ ops y ≡ answeredOps z ++ emit b′ (r′ .op) [] → Sees u s s′ x y z
 sees u s s′ r r′ b b′ x y z is place is′ place′ begin-law finish-law =
@@ -156,7 +159,8 @@ operation-stored t op n c =
     (λ x. either-way (eqb op WRITE) (λ y. rw (x, y)) (λ y. rw (x, y)))
 
 module _ (s : Store) (I : Inv s) (u : ℕ) where
-  begun-own : (op n c : ℕ) → isIdle (s .thread u) ≡ true → within WRITE LEVEL op ≡ true → (eqb op LEVEL || ltb n (s .numbers)) ≡ true →
+  begun-own : (op n c : ℕ) → isIdle (s .thread u) ≡ true → within WRITE LEVEL op ≡ true →
+      (eqb op LEVEL || ltb n (s .numbers)) ≡ true →
       Sees u s (apply s u (begun op n c) nothing) (operation u op n c ∷ []) [] []
   begun-own op n c rests known logical =
       let s′ = apply s u (begun op n c) nothing in
@@ -176,9 +180,11 @@ module _ (s : Store) (I : Inv s) (u : ℕ) where
       (λ x. rw x (either-way (within WRITE LEVEL op)
       (λ y. rw y (either-way (eqb op LEVEL || ltb n (s .numbers))
       (λ z. rw z (either-way (eqb t u)
-      (λ e. rw e (subst (λ (t : ℕ). Sees u s (apply s t (begun op n c) nothing) (operation t op n c ∷ []) [] []) (sym (eqb-true t u e))
+      (λ e. rw e (subst (λ (t : ℕ). Sees u s (apply s t (begun op n c) nothing) (operation t op n c ∷ []) [] [])
+      (sym (eqb-true t u e))
       (begun-own op n c (rw (eqb-true t u e) at x) y z)))
-      (λ e. rw e (sees-same u s (apply s t (begun op n c) nothing) (upd-other (s .thread) t u (begun op n c) (eqb-false t u e)) refl))))
+      (λ e. rw e (sees-same u s (apply s t (begun op n c) nothing)
+      (upd-other (s .thread) t u (begun op n c) (eqb-false t u e)) refl))))
       (λ z. rw z (sees-same u s s refl refl))))
       (λ y. rw y (sees-same u s s refl refl))))
       (λ x. rw x (sees-same u s s refl refl))))
@@ -198,14 +204,16 @@ module _ (s : Store) (I : Inv s) (u : ℕ) where
     now : left-by s u g .thread u ≡ g .becomes
     now = upd-same (s .thread) u (g .becomes)
 
-    last-own : g .number ≡ WENT → Went s u (g .becomes) (g .effect) → takesLast s r ≡ true → Sees u s (left-by s u g) [] places finish
+    last-own : g .number ≡ WENT → Went s u (g .becomes) (g .effect) → takesLast s r ≡ true →
+        Sees u s (left-by s u g) [] places finish
     last-own w W takes =
         let lacks = last-unplaced s I u takes in
         sees-alike (sees u s (left-by s u g) r (g .becomes) false true [] (work u r ∷ []) [] refl lacks now
         (W .place ∙ rw (lacks, takes)) (rw (g .busy, and-false (not (isIdle (g .becomes))))) (rw (W .op)))
         (rw (w, takes)) (rw w)
 
-    on-own : g .number ≡ WENT → Went s u (g .becomes) (g .effect) → takesLast s r ≡ false → Sees u s (left-by s u g) [] places finish
+    on-own : g .number ≡ WENT → Went s u (g .becomes) (g .effect) → takesLast s r ≡ false →
+        Sees u s (left-by s u g) [] places finish
     on-own w W takes =
         sees-alike (sees u s (left-by s u g) r (g .becomes) (placed s r) (placed s r) [] [] [] refl refl now
         (W .place ∙ rw takes (or-false (placed s r)))
@@ -215,8 +223,8 @@ module _ (s : Store) (I : Inv s) (u : ℕ) where
 
     over-own : g .number ≡ FINISHED → g .becomes ≡ idle → placed s r ≡ true → Sees u s (left-by s u g) [] places finish
     over-own w is has =
-        sees-alike (sees u s (left-by s u g) r idle true false [] [] (record { op = r .op; value = g .value } ∷ []) refl has (now ∙ is)
-        refl (rw (and-false (not (isIdle r)))) refl)
+        sees-alike (sees u s (left-by s u g) r idle true false [] [] (record { op = r .op; value = g .value } ∷ []) refl has
+        (now ∙ is) refl (rw (and-false (not (isIdle r)))) refl)
         (rw w) (rw w)
 
     came-own : Came s u (g .number) (g .becomes) (g .effect) → Sees u s (left-by s u g) [] places finish
@@ -236,13 +244,14 @@ module _ (s : Store) (I : Inv s) (u : ℕ) where
 
   own-sees : Going s u → Sees u s (stepped s u) [] (placings u) (finishings u)
   own-sees g =
-      subst (λ (x : Store). Sees u s x [] (placings u) (finishings u)) (sym (ap (λ (x : Reply Store). x .after) (going-reply s u g)))
-      (sees-alike (came-own g (going-came s I u g)) (placing-own u ∙ rw (going-reply s u g, same u, and-true (eqb (g .number) WENT && takesLast s (s .thread u))))
+      subst (λ (x : Store). Sees u s x [] (placings u) (finishings u)) (sym (stepped-is s u g))
+      (sees-alike (came-own g (going-came s I u g))
+      (placing-own u ∙ rw (going-reply s u g, same u, and-true (eqb (g .number) WENT && takesLast s (s .thread u))))
       (rw (going-reply s u g, same u, and-true (eqb (g .number) FINISHED))))
 
   other-sees : (t : ℕ) → (t ≡ u → ⊥) → Going s t → Sees u s (stepped s t) [] (placings t) (finishings t)
   other-sees t apart g =
-      subst (λ (x : Store). Sees u s x [] (placings t) (finishings t)) (sym (ap (λ (x : Reply Store). x .after) (going-reply s t g)))
+      subst (λ (x : Store). Sees u s x [] (placings t) (finishings t)) (sym (stepped-is s t g))
       (sees-alike (sees-same u s (left-by s t g) (upd-other (s .thread) t u (g .becomes) apart)
       (placed-kept s I t (g .becomes) (g .effect) (going-moves s t I g) u apart))
       (placing-own t ∙ rw (ne-eqb t u apart, and-false (eqb (callStore s (step t) .number) WENT && takesLast s (s .thread t))))

@@ -1,26 +1,26 @@
 -- A step that takes its operation's last lock turns what the store comes to into what the whole operation, run alone from there, leaves;
 -- and the operation answers what it answers there.
 -- Assumes nothing.
-use mathlib.Core.Path.{_≡_, refl, sym, ap, _∙_, subst}
-use mathlib.Core.Bool.{Bool, true, false, _&&_}
+use mathlib.Core.Path.{_≡_, ap, _∙_, subst}
+use mathlib.Core.Bool.{true, false, _&&_}
 use mathlib.Core.List.{List, [], _∷_, _++_}
-use Prim.Native.Nat.{ℕ, suc, _+_, _-_, _<_}
+use Prim.Native.Nat.{ℕ, suc, _+_, _-_}
 use native.Mathlib.Omega.{arith}
 use lib.Dec.{eqb}
 use Rattle.meaning.specs.declared.Thread.{Thread}
 use Rattle.meaning.specs.declared.Effect.{Effect}
-use Rattle.meaning.specs.Numbers.{WENT, FINISHED}
+use Rattle.meaning.specs.Numbers.{WENT}
 use Rattle.meaning.specs.Store.{Store}
 use Rattle.meaning.specs.Step.{apply}
-use Rattle.meaning.specs.Call.{Reply, Entry, begin, step, callStore, isIdle, storedN, storedC}
+use Rattle.meaning.specs.Call.{Reply, Entry, begin, step, callStore}
 use Rattle.meaning.specs.Schedule.{Operation, operation, Answered, emit, takesLast, run, finishedBy, steps, longest, whole}
 use Rattle.meaning.proofs.Words.{clash, upd-same}
 use Rattle.meaning.proofs.Invariant.{Inv}
 use Rattle.meaning.proofs.Keeping.{moves-inv}
-use Rattle.meaning.proofs.EitherOrder.{Going, left-by, going-reply, going-moves}
-use Rattle.meaning.proofs.Places.{Went, went, over, Came, going-came, last-unplaced, placed}
+use Rattle.meaning.proofs.EitherOrder.{Going, left-by, going-moves}
+use Rattle.meaning.proofs.Places.{Went, went, over, Came, going-came, placed}
 use Rattle.meaning.proofs.Settles.{cleared, stepped, answering, Settles, settles-alike, Moved, moved-settles, Ready, ready-going, ready-moves, ready-still}
-use Rattle.meaning.proofs.Alone.{alone, lines-end, next-nobody, step-alone, answering-alone, ends-as, ends-with, going, placed-settles}
+use Rattle.meaning.proofs.Alone.{alone, lines-end, next-nobody, step-alone, ends-as, ends-with, going, placed-settles}
 use Rattle.meaning.proofs.Runs.{emit-append, steps-split, run-append, finishedBy-append}
 use Rattle.meaning.proofs.Replay.{Replayed, last-replayed}
 
@@ -42,7 +42,7 @@ module _ (s : Store) (I : Inv s) (t : ℕ) (g : Going s t) (takes : takesLast s 
 
   -- the steps after the one that takes the last lock
   abbrev rest-of : ℕ
-  rest-of = 17 - R .before
+  rest-of = longest - (R .before + 1)
 
   lines : longest ≡ R .before + suc rest-of
   lines =
@@ -75,7 +75,8 @@ module _ (s : Store) (I : Inv s) (t : ℕ) (g : Going s t) (takes : takesLast s 
   answers w is u =
       ap (λ (w : List Entry). answers-of (cleared s) w u) is
       ∙ finishedBy-append callStore (λ s. s) (cleared s) u begins (step t ∷ steps rest-of t [])
-      ∙ ap (λ (l : List Answered). l ++ answers-of (run callStore (cleared s) begins) (step t ∷ steps rest-of t []) u) (R .plays .silent u)
+      ∙ ap (λ (l : List Answered). l ++ answers-of (run callStore (cleared s) begins) (step t ∷ steps rest-of t []) u)
+      (R .plays .silent u)
       ∙ ap (λ (x : Store). answers-of x (step t ∷ steps rest-of t []) u) (R .plays .leaves)
       ∙ taken-answers u (ends-with rest-of t (stepped (alone t s) t) u)
       ∙ ap (λ (x : Store). ends-with rest-of t x u) taken
@@ -104,7 +105,8 @@ module _ (t : ℕ) (r : Thread) (n x : ℕ) (r′ : Thread) (e : Effect) (d : St
   Adding q u l l′ = l ++ answers-of d (whole (work t q) []) u ≡ l′
 
   takes-alone : (s : Store) (a : ℕ → List Answered) → Inv s → (C : Takes s) → ((v : ℕ) → placed s (s .thread v) ≡ false) →
-      d ≡ cleared s → ((u : ℕ) → a u ≡ []) → Came s t n r′ e → Moved (apply s t r′ e) (after-whole (s .thread t)) (Adding (s .thread t)) a
+      d ≡ cleared s → ((u : ℕ) → a u ≡ []) → Came s t n r′ e →
+      Moved (apply s t r′ e) (after-whole (s .thread t)) (Adding (s .thread t)) a
   takes-alone s a I C nobody is none (went w′ w) =
       let g = ready-going t r n x r′ e false true s C in
       let takes : takesLast s (s .thread t) ≡ true = rw (C .is) (C .takes) in

@@ -12,6 +12,7 @@ pub mod Level
 pub mod EveryLine
 pub mod Demand1
 pub mod EitherOrder
+pub mod Shapes
 pub mod Places
 pub mod Settles
 pub mod Alone

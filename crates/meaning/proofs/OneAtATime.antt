@@ -3,32 +3,30 @@
 -- finished or not: what a thread has finished with are the first of its answers in that run, and the rest is at most one, that of its
 -- open operation that has its place (`answers-so-far`).
 -- Assumes nothing.
-use mathlib.Core.Path.{_≡_, refl, sym, ap, _∙_, subst, fun-ext}
+use mathlib.Core.Path.{_≡_, refl, sym, ap, _∙_, subst}
 use mathlib.Core.Bool.{Bool, true, false, _&&_, _||_, and-false}
 use mathlib.Core.List.{List, [], _∷_, _++_, append-nil, append-assoc}
-use Prim.Native.Nat.{ℕ, _<_, _≤_}
+use Prim.Native.Nat.{ℕ, _≤_}
 use native.Mathlib.Omega.{arith}
-use lib.Dec.{eqb, ltb, leb}
 use lib.ListN.{length}
+use lib.Dec.{eqb, ltb, leb}
 use borrow.Author.Tests.{eqb-true, eqb-false, ne-eqb, ltb-true}
 use Rattle.meaning.specs.declared.Thread.{Thread}
-use Rattle.meaning.specs.declared.Verdict.{Verdict}
-use Rattle.meaning.specs.declared.Verdict.the-variants.{Blocked, Fault, Go, Done}
 use Rattle.meaning.specs.Numbers.{WENT, FINISHED}
 use Rattle.meaning.specs.Limits.{within, inLimits}
 use Rattle.meaning.specs.Store.{Store, idle, fresh}
 use Rattle.meaning.specs.Holding.{none, heldBy}
 use Rattle.meaning.specs.Programs.{WRITE, LEVEL}
-use Rattle.meaning.specs.Step.{nothing, verdict, apply}
-use Rattle.meaning.specs.Call.{Reply, Entry, begin, step, callStore, reply, told, isIdle, begun}
+use Rattle.meaning.specs.Step.{nothing, apply}
+use Rattle.meaning.specs.Call.{Reply, Entry, begin, step, callStore, told, isIdle, begun}
 use Rattle.meaning.specs.Schedule.{Operation, Answered, emit, takesLast, run, placing, finishing, order, finishedBy, serial}
 use Rattle.meaning.proofs.Words.{same, either-way, clash, nobody-free, free-none, upd-same, upd-other}
 use Rattle.meaning.proofs.Invariant.{holdsH, ownsHeaders, holdsLock, ownsBlock, Inv}
 use Rattle.meaning.proofs.EveryLine.{idle-is}
-use Rattle.meaning.proofs.Demand1.{inv-fresh, inv-call, inv-run, CanStep}
+use Rattle.meaning.proofs.Demand1.{inv-fresh, inv-call, inv-run}
 use Rattle.meaning.proofs.EitherOrder.{Going, left-by, can-going, going-reply, going-moves}
-use Rattle.meaning.proofs.Places.{Went, went, over, Came, going-came, last-unplaced, placed, placed-going, placed-kept}
-use Rattle.meaning.proofs.Settles.{cleared, stepped, answering, Settles, rest, more, settles-alike, Moved, Ready, Begins, early-settles, begin-settles, late-settles}
+use Rattle.meaning.proofs.Places.{went, over, Came, going-came, last-unplaced, placed, placed-going, placed-kept}
+use Rattle.meaning.proofs.Settles.{cleared, stepped, stepped-is, answering, Settles, rest, more, settles-alike, Moved, Ready, early-settles, begin-settles, late-settles}
 use Rattle.meaning.proofs.LastLock.{work, answers-of, last-settles}
 use Rattle.meaning.proofs.Runs.{step-stays, refused-number, emit-append, placing-append, finishing-append, run-append, finishedBy-append, serial-append}
 
@@ -51,6 +49,10 @@ pub record AnswersSoFar (s : Store) (w : List Entry) (u : ℕ) : Type 0 where
   pub rest-owed : List Answered
   pub owed : Owed (run callStore s w) u rest-owed
   pub answers : finishedBy callStore (λ s. s) s u (one-by-one s w) ≡ finishedBy callStore (λ s. s) s u w ++ rest-owed
+
+pub owed-short : {s : Store} {u : ℕ} {l : List Answered} → Owed s u l → length l ≤ 1
+owed-short (none-owed _ e) = rw e (omega arith)
+owed-short (one-owed _ v e) = rw e (omega arith)
 
 -- ---- one call
 
@@ -103,7 +105,8 @@ module _ (s : Store) (I : Inv s) (d : Store) (a : ℕ → List Answered) (S : Se
     abbrev r : Thread
     r = s .thread t
 
-    abbrev ready : (p l : Bool) → placed s r ≡ p → takesLast s r ≡ l → Ready t r (g .number) (g .value) (g .becomes) (g .effect) p l s
+    abbrev ready : (p l : Bool) → placed s r ≡ p → takesLast s r ≡ l →
+        Ready t r (g .number) (g .value) (g .becomes) (g .effect) p l s
     ready p l x y = record { is = refl; below = g .below; busy = g .busy; told = g .told′; has = x; takes = y }
 
     -- what it places and finishes
@@ -149,7 +152,7 @@ module _ (s : Store) (I : Inv s) (d : Store) (a : ℕ → List Answered) (S : Se
     going-after : After (stepped s t) d a (placings (step t)) (finishings (step t))
     going-after =
         subst (λ (x : Store). After x d a (placings (step t)) (finishings (step t)))
-        (sym (ap (λ (x : Reply Store). x .after) (going-reply s t g)))
+        (sym (stepped-is s t g))
         (after-alike (left-by s t g) d a places (placings (step t)) finishes (finishings (step t))
         (came-after (going-came s I t g)) (rw (going-reply s t g)) (λ u. rw (going-reply s t g)))
 
@@ -240,7 +243,7 @@ module _ (s : Store) (I : Inv s) (t : ℕ) (g : Going s t) (has : placed s (s .t
 
   owed-before : (u : ℕ) → Owed (stepped s t) u l → Owed s u (answering s t u l)
   owed-before u o =
-      let o′ : Owed (left-by s t g) u l = subst (λ (x : Store). Owed x u l) (ap (λ (x : Reply Store). x .after) (going-reply s t g)) o in
+      let o′ : Owed (left-by s t g) u l = subst (λ (x : Store). Owed x u l) (stepped-is s t g) o in
       either-way (eqb t u)
       (λ x. subst (λ (v : ℕ). Owed (left-by s t g) v l → Owed s v (answering s t v l)) (eqb-true t u x)
       (owed-own (going-came s I t g)) o′)

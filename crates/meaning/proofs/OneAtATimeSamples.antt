@@ -7,7 +7,7 @@ use Prim.Native.Nat.{ℕ, zero, suc}
 use Rattle.meaning.specs.Store.{Store, fresh}
 use Rattle.meaning.specs.Programs.{WRITE, READ, UNMAP, LEVEL}
 use Rattle.meaning.specs.Call.{Entry, begin, step, callStore}
-use Rattle.meaning.specs.Schedule.{Operation, operation, Answered, run, order, finishedBy, steps, serial}
+use Rattle.meaning.specs.Schedule.{Operation, operation, run, order, finishedBy, steps, serial}
 use Rattle.meaning.proofs.OneAtATime.{one-by-one}
 
 -- the first so many entries of a table, in order

@@ -1,39 +1,37 @@
 -- Which open operation has its place in the order of last locks, `placed`, and what a step does to that: a step that takes a last lock
 -- gives its own thread a place, a step that ends takes it away, and no other step gives or takes one, of its own thread or another.
--- What a line does to its thread's record and to the tables is said by the shape of its act; the rest is tests at every line.
+-- What a line does to its thread's record and to the tables is said by the shape of its act (Shapes); the rest is tests at every line.
 -- Assumes nothing.
-use mathlib.Core.Path.{_≡_, refl, sym, _∙_, subst}
-use mathlib.Core.Bool.{Bool, true, false, not, cond, _&&_, _||_, or-false}
+use mathlib.Core.Path.{_≡_, refl, sym, ap, _∙_, subst}
+use mathlib.Core.Bool.{Bool, true, false, not, _&&_, _||_}
 use mathlib.Core.Logic.{_⊎_, inl, inr}
 use Prim.Native.Nat.{ℕ, _+_, _<_}
 use native.Mathlib.Omega.{arith}
 use lib.Dec.{eqb, ltb}
-use borrow.Author.Tests.{eqb-true, eqb-false, eq-eqb, ne-eqb, ltb-true, not-true}
-use Rattle.meaning.specs.declared.Act.{Act}
-use Rattle.meaning.specs.declared.Act.the-variants.{Nothing, TakeH, ReleaseH, FinishH, TakeN, ReleaseN, FinishN, OwnHeaders, LetGoHeaders, Own, LetGo, GoIfMapped, GoIfUnmapped, EmptyIfUnmapped, GoIfFree, PickFree, Choose, ReadHeader, WriteHeaderN, WriteHeaderH, FreeHeader, EmptyContent, ReadContent, WriteContent, MapTo, Unmap}
+use borrow.Author.Tests.{eqb-true, eqb-false, eq-eqb, ltb-true, not-true}
 use Rattle.meaning.specs.declared.Thread.{Thread}
 use Rattle.meaning.specs.declared.Entry.{Entry}
 use Rattle.meaning.specs.declared.Entry.the-variants.{Keep, Put}
 use Rattle.meaning.specs.declared.Effect.{Effect}
-use Rattle.meaning.specs.declared.Found.{Found}
-use Rattle.meaning.specs.declared.Found.the-variants.{Nobody, At}
+use Rattle.meaning.specs.declared.Found.the-variants.{At}
 use Rattle.meaning.specs.declared.Verdict.{Verdict}
 use Rattle.meaning.specs.declared.Verdict.the-variants.{Blocked, Fault, Go, Done}
 use Rattle.meaning.specs.Numbers.{WENT, FINISHED}
 use Rattle.meaning.specs.Store.{Store, idle}
-use Rattle.meaning.specs.Holding.{none, free, heldBy, named}
+use Rattle.meaning.specs.Holding.{none, free}
 use Rattle.meaning.specs.Programs.{WRITE, LEVEL, actAt, lastTake, unmovedTake}
-use Rattle.meaning.specs.Choosing.{lowestFree, toBlock, leastWorn, fromBlock, moves}
-use Rattle.meaning.specs.Step.{block, touches, heads, choosing, perform, verdict, put, apply}
+use Rattle.meaning.specs.Choosing.{toBlock, leastWorn, fromBlock, moves}
+use Rattle.meaning.specs.Step.{verdict, put, apply}
 use Rattle.meaning.specs.Call.{isIdle, storedN, storedC}
 use Rattle.meaning.specs.Schedule.{takesLast, operation}
-use Rattle.meaning.proofs.Words.{either-way, clash, and-left, and-right, or-way, free-held, held-once, naming-not-free}
-use Rattle.meaning.proofs.Invariant.{_–_, never, row, holdsH, ownsHeaders, takesH, takesN, Stands, If, Puts, Guards, GuardsHeader, GuardsWear, Inv}
+use Rattle.meaning.proofs.Words.{either-way, clash, and-left, and-right, or-way, free-held, held-once}
+use Rattle.meaning.proofs.Invariant.{_–_, never, row, h-heads-p, chosen-now, q-free, holdsH, ownsHeaders, takesH, takesN, Stands, Puts, GuardsHeader, GuardsWear, Inv}
 use Rattle.meaning.proofs.Keeping.{standing, everyLine, everywhere, up, Moves}
 use Rattle.meaning.proofs.Lines.{Fine}
 use Rattle.meaning.proofs.EveryLine.{fine}
 use Rattle.meaning.proofs.Demand1.{up-busy}
 use Rattle.meaning.proofs.EitherOrder.{Goes, goes, ends, Going, told-going, goes-unblocked}
+use Rattle.meaning.proofs.Shapes.{Shape, shape, Quiet, Onto, Lands, lands}
 use Rattle.meaning.proofs.Blocks.{Best, best-finds, finds, lacks}
 
 -- ---- what is said
@@ -61,170 +59,6 @@ placed s r = placedWhere (movesNow s) r
 abbrev lastWhere : Bool → Thread → Bool
 lastWhere m r = eqb (r .line) (lastTake (r .op)) || eqb (r .op) LEVEL && eqb (r .line) unmovedTake && not m
 
--- ---- the shape of an act
-
--- what it may do to its thread's record beside going on to the next line, and whether it writes to a table
-data Shape : Type 0 where
-  onwards : Shape
-  waits : Shape
-  stops : Shape
-  writes : Shape
-  reads : Shape
-  jumps : ℕ → Shape
-  empties : ℕ → Shape
-  names : ℕ → Shape
-
-abbrev shape : Act → Shape
-shape Nothing = onwards
-shape TakeH = waits
-shape ReleaseH = onwards
-shape (FinishH a) = stops
-shape TakeN = waits
-shape ReleaseN = onwards
-shape (FinishN a) = stops
-shape OwnHeaders = onwards
-shape LetGoHeaders = onwards
-shape (Own b) = onwards
-shape (LetGo b) = onwards
-shape (GoIfMapped l) = jumps l
-shape (GoIfUnmapped l) = jumps l
-shape (EmptyIfUnmapped l) = empties l
-shape (GoIfFree l) = names l
-shape PickFree = onwards
-shape Choose = onwards
-shape ReadHeader = onwards
-shape WriteHeaderN = writes
-shape WriteHeaderH = writes
-shape FreeHeader = writes
-shape EmptyContent = writes
-shape ReadContent = reads
-shape (WriteContent b) = writes
-shape (MapTo b) = writes
-shape Unmap = writes
-
-abbrev ends? : Shape → Bool
-ends? onwards = false
-ends? waits = false
-ends? stops = true
-ends? writes = false
-ends? reads = false
-ends? (jumps l) = false
-ends? (empties l) = false
-ends? (names l) = false
-
-abbrev waits? : Shape → Bool
-waits? onwards = false
-waits? waits = true
-waits? stops = false
-waits? writes = false
-waits? reads = false
-waits? (jumps l) = false
-waits? (empties l) = false
-waits? (names l) = false
-
--- the line to which it may go from a line, if not to the next
-abbrev jump : Shape → ℕ → ℕ
-jump onwards line = line + 1
-jump waits line = line + 1
-jump stops line = line + 1
-jump writes line = line + 1
-jump reads line = line + 1
-jump (jumps l) line = l
-jump (empties l) line = l
-jump (names l) line = l
-
-abbrev quiet? : Shape → Bool
-quiet? onwards = true
-quiet? waits = true
-quiet? stops = true
-quiet? writes = false
-quiet? reads = true
-quiet? (jumps l) = true
-quiet? (empties l) = true
-quiet? (names l) = true
-
-abbrev keepsN : Shape → Bool
-keepsN onwards = true
-keepsN waits = true
-keepsN stops = true
-keepsN writes = true
-keepsN reads = true
-keepsN (jumps l) = true
-keepsN (empties l) = true
-keepsN (names l) = false
-
-abbrev keepsC : Shape → Bool
-keepsC onwards = true
-keepsC waits = true
-keepsC stops = true
-keepsC writes = true
-keepsC reads = false
-keepsC (jumps l) = true
-keepsC (empties l) = false
-keepsC (names l) = true
-
--- an effect on locks and owners alone
-pub record Quiet (e : Effect) : Type 0 where
-  pub map : e .map ≡ Keep
-  pub header : e .header ≡ Keep
-  pub content : e .content ≡ Keep
-  pub wear : e .wear ≡ Keep
-
-record Onto (a : Shape) (r r′ : Thread) (e : Effect) : Type 0 where
-  goes : ends? a ≡ false
-  op : r′ .op ≡ r .op
-  line : (r′ .line ≡ r .line + 1) ⊎ (r′ .line ≡ jump a (r .line))
-  branch : If (not (keepsN a)) (r′ .line ≡ cond (free (r .h)) (jump a (r .line)) (r .line + 1))
-  n : If (keepsN a) (r′ .n ≡ r .n)
-  c : If (keepsC a) (r′ .c ≡ r .c)
-  quiet : If (quiet? a) (Quiet e)
-
-abbrev Lands : Shape → Thread → Verdict → Type 0
-Lands a r Blocked = waits? a ≡ true
-Lands a r Fault = Unit {0}
-Lands a r (Go r′ e) = Onto a r r′ e
-Lands a r (Done v e) = ends? a ≡ true
-
-choosing-lands : (s : Store) (r : Thread) (to from : Found) → Lands onwards r (choosing s r to from)
-choosing-lands s r Nobody from = tt
-choosing-lands s r (At to) from = search inl
-
-lands : (a : Act) (s : Store) (t : ℕ) (r : Thread) → Lands (shape a) r (perform a s t r)
-lands Nothing s t r = tt
-lands TakeH s t r = either-way (free (s .lock)) (λ f. rw f (search inl)) (λ f. rw f refl)
-lands ReleaseH s t r = either-way (heldBy t (s .lock)) (λ f. rw f (search inl)) (λ f. rw f tt)
-lands (FinishH a) s t r = either-way (heldBy t (s .lock)) (λ f. rw f refl) (λ f. rw f tt)
-lands TakeN s t r = either-way (free (s .locks (r .n))) (λ f. rw f (search inl)) (λ f. rw f refl)
-lands ReleaseN s t r = either-way (heldBy t (s .locks (r .n))) (λ f. rw f (search inl)) (λ f. rw f tt)
-lands (FinishN a) s t r = either-way (heldBy t (s .locks (r .n))) (λ f. rw f refl) (λ f. rw f tt)
-lands OwnHeaders s t r = either-way (free (s .owner)) (λ f. rw f (search inl)) (λ f. rw f tt)
-lands LetGoHeaders s t r = either-way (heldBy t (s .owner)) (λ f. rw f (search inl)) (λ f. rw f tt)
-lands (Own b) s t r = either-way (free (s .own (block b r))) (λ f. rw f (search inl)) (λ f. rw f tt)
-lands (LetGo b) s t r = either-way (heldBy t (s .own (block b r))) (λ f. rw f (search inl)) (λ f. rw f tt)
-lands (GoIfMapped l) s t r = either-way (free (s .map (r .n))) (λ f. rw f (search inl)) (λ f. rw f (search inr))
-lands (GoIfUnmapped l) s t r = either-way (free (s .map (r .n))) (λ f. rw f (search inr)) (λ f. rw f (search inl))
-lands (EmptyIfUnmapped l) s t r = either-way (free (s .map (r .n))) (λ f. rw f (search inr)) (λ f. rw f (search inl))
-lands (GoIfFree l) s t r =
-    either-way (free (r .h)) (λ f. let x : l ≡ cond (free (r .h)) l (r .line + 1) = rw f in rw f (search inr))
-    (λ f. let x : r .line + 1 ≡ cond (free (r .h)) l (r .line + 1) = rw f in rw f (search inl))
-lands PickFree s t r =
-    either-way (heldBy t (s .owner))
-    (λ f. rw f (either-way (ltb (lowestFree (s .header) (s .blocks)) (s .blocks)) (λ b. rw b (search inl)) (λ b. rw b tt)))
-    (λ f. rw f tt)
-lands Choose s t r =
-    either-way (heldBy t (s .owner))
-    (λ f. rw f (choosing-lands s r (toBlock (s .header) (s .wear) (s .blocks)) (leastWorn (s .header) (s .wear) (s .blocks))))
-    (λ f. rw f tt)
-lands ReadHeader s t r = either-way (heldBy t (s .owner)) (λ f. rw f (search inl)) (λ f. rw f tt)
-lands WriteHeaderN s t r = either-way (heads s t (r .p)) (λ f. rw f (search inl)) (λ f. rw f tt)
-lands WriteHeaderH s t r = either-way (heads s t (r .q)) (λ f. rw f (search inl)) (λ f. rw f tt)
-lands FreeHeader s t r = either-way (heads s t (r .p)) (λ f. rw f (search inl)) (λ f. rw f tt)
-lands EmptyContent s t r = either-way (touches s t (r .p)) (λ f. rw f (search inl)) (λ f. rw f tt)
-lands ReadContent s t r = either-way (touches s t (r .p)) (λ f. rw f (search inl)) (λ f. rw f tt)
-lands (WriteContent b) s t r = either-way (touches s t (block b r)) (λ f. rw f (search inl)) (λ f. rw f tt)
-lands (MapTo b) s t r = search inl
-lands Unmap s t r = search inl
-
 -- ---- rules of the table
 
 abbrev shapeAt : ℕ → ℕ → Shape
@@ -232,7 +66,7 @@ shapeAt op line = shape (actAt op line)
 
 -- L5, where what follows depends on the header that was read
 abbrev branches : ℕ → ℕ → Bool
-branches op line = eqb op LEVEL && eqb line 5
+branches op line = h-heads-p (standing op line)
 
 abbrev alike : Bool → Bool → Bool
 alike true b = b
@@ -246,28 +80,36 @@ alike-is false false x = refl
 
 -- who ends has its place
 abbrev ends-rule : ℕ → ℕ → Bool
-ends-rule op line = not (ends? (shapeAt op line)) || pastLast (standing op line)
+ends-rule op line = not (shapeAt op line .ends?) || pastLast (standing op line)
 
 -- who goes on has a place next if it had one, or took its last lock
 abbrev next-rule : Bool → ℕ → ℕ → Bool
 next-rule m op line =
-    eqb op 0 || ends? (shapeAt op line) || branches op line ||
+    eqb op 0 || shapeAt op line .ends? || branches op line ||
     alike (placedWhere m (standing op (line + 1))) (placedWhere m (standing op line) || lastWhere m (standing op line))
-    && alike (placedWhere m (standing op (jump (shapeAt op line) line)))
+    && alike (placedWhere m (standing op (shapeAt op line .jump line)))
     (placedWhere m (standing op line) || lastWhere m (standing op line))
+
+-- who branches has its place if nothing is moved; then it has it where it jumps, and else not at the next line
+abbrev branch-rule : Bool → ℕ → ℕ → Bool
+branch-rule m op line =
+    not (branches op line)
+    || not (shapeAt op line .keepsN)
+    && (alike (placedWhere m (standing op line) || lastWhere m (standing op line)) (not m)
+    && (pastLast (standing op (shapeAt op line .jump line)) && not (placedWhere m (standing op (line + 1)))))
 
 -- who writes to a table has its place, and keeps it
 abbrev write-rule : ℕ → ℕ → Bool
 write-rule op line =
-    quiet? (shapeAt op line)
+    shapeAt op line .quiet?
     || pastLast (standing op line)
-    && (pastLast (standing op (line + 1)) && pastLast (standing op (jump (shapeAt op line) line)))
+    && (pastLast (standing op (line + 1)) && pastLast (standing op (shapeAt op line .jump line)))
 
 -- who has its place takes nothing more
 abbrev take-rule : Bool → ℕ → ℕ → Bool
 take-rule m op line =
     not (placedWhere m (standing op line))
-    || not (waits? (shapeAt op line)) && (not (takesH (standing op line)) && not (takesN (standing op line)))
+    || not (shapeAt op line .waits?) && (not (takesH (standing op line)) && not (takesN (standing op line)))
 
 -- who takes its last lock has no place yet
 abbrev last-rule : Bool → ℕ → ℕ → Bool
@@ -275,7 +117,7 @@ last-rule m op line = not (placedWhere m (standing op line) && lastWhere m (stan
 
 -- the number and the word of an operation stay
 abbrev work-rule : ℕ → ℕ → Bool
-work-rule op line = (not (eqb op WRITE) || keepsC (shapeAt op line)) && (eqb op LEVEL || keepsN (shapeAt op line))
+work-rule op line = (not (eqb op WRITE) || shapeAt op line .keepsC) && (eqb op LEVEL || shapeAt op line .keepsN)
 
 -- nobody has a place at its first line
 abbrev first-rule : Bool → ℕ → ℕ → Bool
@@ -283,7 +125,7 @@ first-rule m op line = not (eqb line 1) || not (placedWhere m (standing op line)
 
 -- lines only go up
 abbrev up-rule : ℕ → ℕ → Bool
-up-rule op line = ltb line (jump (shapeAt op line) line)
+up-rule op line = ltb line (shapeAt op line .jump line)
 
 abbrev both : (Bool → ℕ → ℕ → Bool) → ℕ → ℕ → Bool
 both rule op line = rule true op line && rule false op line
@@ -294,8 +136,8 @@ at-both rule false op line x = and-right (rule true op line) _ x
 
 rules : (everyLine ends-rule ≡ true) × (everyLine (both next-rule) ≡ true) × (everyLine write-rule ≡ true)
     × (everyLine (both last-rule) ≡ true) × (everyLine work-rule ≡ true) × (everyLine up-rule ≡ true)
-    × (everyLine (both take-rule) ≡ true) × (everyLine (both first-rule) ≡ true)
-rules = (refl, refl, refl, refl, refl, refl, refl, refl)
+    × (everyLine (both take-rule) ≡ true) × (everyLine (both first-rule) ≡ true) × (everyLine (both branch-rule) ≡ true)
+rules = (refl, refl, refl, refl, refl, refl, refl, refl, refl)
 
 -- ---- where levelling branches
 
@@ -306,7 +148,8 @@ chosen-moves : (s : Store) (p q : ℕ) → toBlock (s .header) (s .wear) (s .blo
 chosen-moves s p q to from empty =
     rw (to, from) (either-way (eqb p q)
     (λ e. let z : s .header p ≡ none = rw (eqb-true p q e) empty in rw (e, z))
-    (λ e. rw e (sym (go (eqb-false p q e) (best-finds (λ k. not (free (s .header k))) (λ k m. ltb (s .wear k) (s .wear m)) (s .blocks))))))
+    (λ e. rw e (sym (go (eqb-false p q e)
+    (best-finds (λ k. not (free (s .header k))) (λ k m. ltb (s .wear k) (s .wear m)) (s .blocks))))))
   where
     go : (p ≡ q → ⊥) → Best (λ k. not (free (s .header k))) (λ k m. ltb (s .wear k) (s .wear m)) (s .blocks) →
         not (free (s .header p)) ≡ true
@@ -318,12 +161,11 @@ chosen-moves s p q to from empty =
 module _ (s : Store) (I : Inv s) (t : ℕ) where
   branch-moves : branches (s .thread t .op) (s .thread t .line) ≡ true → movesNow s ≡ not (free (s .thread t .h))
   branch-moves x =
-      let o : s .thread t .op ≡ LEVEL = eqb-true (s .thread t .op) LEVEL (and-left (eqb (s .thread t .op) LEVEL) _ x) in
-      let l : s .thread t .line ≡ 5 = eqb-true (s .thread t .line) 5 (and-right (eqb (s .thread t .op) LEVEL) _ x) in
-      let c = rw (o, l) at (I .facts t .chosen) in
-      let f = rw (o, l) at (I .facts t .free-q) in
-      let h = rw (o, l) at (I .facts t .heads-p) in
-      rw h (chosen-moves s (s .thread t .p) (s .thread t .q) (c .to) (c .from) f)
+      let r = s .thread t in
+      let c = rw (up h-heads-p chosen-now refl r (I .stands t) x) at (I .facts t .chosen) in
+      let f = rw (up h-heads-p q-free refl r (I .stands t) x) at (I .facts t .free-q) in
+      let h = rw x at (I .facts t .heads-p) in
+      rw h (chosen-moves s (r .p) (r .q) (c .to) (c .from) f)
 
 -- ---- what a step does
 
@@ -356,10 +198,10 @@ module _ (s : Store) (I : Inv s) (t : ℕ) (busy : isIdle (s .thread t) ≡ fals
 
   module _ (r′ : Thread) (e : Effect) (O : Onto a (s .thread t) r′ e) where
     -- what holds of both lines to which it may go holds of the one
-    at-next : (P : ℕ → Type 0) → P (s .thread t .line + 1) → P (jump a (s .thread t .line)) → P (r′ .line)
+    at-next : (P : ℕ → Type 0) → P (s .thread t .line + 1) → P (a .jump (s .thread t .line)) → P (r′ .line)
     at-next P x y = go (O .line)
       where
-        go : (r′ .line ≡ s .thread t .line + 1) ⊎ (r′ .line ≡ jump a (s .thread t .line)) → P (r′ .line)
+        go : (r′ .line ≡ s .thread t .line + 1) ⊎ (r′ .line ≡ a .jump (s .thread t .line)) → P (r′ .line)
         go (inl z) = subst P (sym z) x
         go (inr z) = subst P (sym z) y
 
@@ -372,21 +214,21 @@ module _ (s : Store) (I : Inv s) (t : ℕ) (busy : isIdle (s .thread t) ≡ fals
         let rules = rule work-rule (rules .4) in
         let n : storedN (r′ .op) (r′ .n) ≡ storedN (s .thread t .op) (s .thread t .n) =
         rw (O .op) (either-way (eqb (s .thread t .op) LEVEL) (λ x. rw x)
-        (λ x. rw x (rw (rw x at (and-right (not (eqb (s .thread t .op) WRITE) || keepsC a) _ rules)) at (O .n)))) in
+        (λ x. rw x (rw (rw x at (and-right (not (eqb (s .thread t .op) WRITE) || a .keepsC) _ rules)) at (O .n)))) in
         let c : storedC (r′ .op) (r′ .c) ≡ storedC (s .thread t .op) (s .thread t .c) =
         rw (O .op) (either-way (eqb (s .thread t .op) WRITE)
-        (λ x. rw x (rw (rw x at (and-left (not (eqb (s .thread t .op) WRITE) || keepsC a) _ rules)) at (O .c)))
+        (λ x. rw x (rw (rw x at (and-left (not (eqb (s .thread t .op) WRITE) || a .keepsC) _ rules)) at (O .c)))
         (λ x. rw x)) in
         λ i. record { thread = t; op = O .op i; number = n i; word = c i }
 
     went-quiet : placed s (s .thread t) ≡ false → Quiet e
     went-quiet x =
-        or-way (quiet? a) _ (rule write-rule (rules .2)) (λ q. rw q at (O .quiet))
+        or-way (a .quiet?) _ (rule write-rule (rules .2)) (λ q. rw q at (O .quiet))
         (λ y. clash refl (rw (and-left (pastLast (standing (s .thread t .op) (s .thread t .line))) _ y) at x))
 
     went-place : placed (apply s t r′ e) r′ ≡ (placed s (s .thread t) || takesLast s (s .thread t))
     went-place =
-        or-way (quiet? a) _ (rule write-rule (rules .2))
+        or-way (a .quiet?) _ (rule write-rule (rules .2))
         (λ q. rw (
           moves-quiet s t r′ e (rw q at (O .quiet)),
           placed-at (movesNow s) r′ (s .thread t .op) (r′ .line) (O .op) refl,
@@ -404,11 +246,26 @@ module _ (s : Store) (I : Inv s) (t : ℕ) (busy : isIdle (s .thread t) ≡ fals
             placedWhere (movesNow s) (standing (s .thread t .op) (r′ .line)) ≡
             (placed s (s .thread t) || takesLast s (s .thread t))
         branching b =
-            let o : s .thread t .op ≡ LEVEL = eqb-true (s .thread t .op) LEVEL (and-left (eqb (s .thread t .op) LEVEL) _ b) in
-            let l : s .thread t .line ≡ 5 = eqb-true (s .thread t .line) 5 (and-right (eqb (s .thread t .op) LEVEL) _ b) in
+            let op = s .thread t .op in
+            let line = s .thread t .line in
             let m = branch-moves s I t b in
-            let to : r′ .line ≡ cond (free (s .thread t .h)) 17 6 = rw (o, l) at (O .branch) in
-            either-way (free (s .thread t .h)) (λ f. rw (o, l, m, f, to, f)) (λ f. rw (o, l, m, f, to, f))
+            let x = rw b at (at-both branch-rule (movesNow s) op line (rule (both branch-rule) (rules .8))) in
+            let y = and-right (not (a .keepsN)) _ x in
+            let z =
+            and-right (alike (placed s (s .thread t) || takesLast s (s .thread t)) (not (movesNow s))) _ y in
+            let was : (placed s (s .thread t) || takesLast s (s .thread t)) ≡ not (movesNow s) =
+            alike-is _ _ (and-left (alike (placed s (s .thread t) || takesLast s (s .thread t)) (not (movesNow s))) _ y) in
+            let to = rw (and-left (not (a .keepsN)) _ x) at (O .branch) in
+            either-way (free (s .thread t .h))
+            (λ f.
+            let l : r′ .line ≡ a .jump line = to ∙ rw f in
+            let is : placedWhere (movesNow s) (standing op (a .jump line)) ≡ true =
+            rw (and-left (pastLast (standing op (a .jump line))) _ z) in
+            ap (λ (k : ℕ). placedWhere (movesNow s) (standing op k)) l ∙ is ∙ sym (was ∙ rw (m, f)))
+            (λ f.
+            let l : r′ .line ≡ line + 1 = to ∙ rw f in
+            ap (λ (k : ℕ). placedWhere (movesNow s) (standing op k)) l
+            ∙ not-true _ (and-right (pastLast (standing op (a .jump line))) _ z) ∙ sym (was ∙ rw (m, f)))
 
         straight : branches (s .thread t .op) (s .thread t .line) ≡ false →
             placedWhere (movesNow s) (standing (s .thread t .op) (r′ .line)) ≡
@@ -456,26 +313,29 @@ first-unplaced s r st l =
 -- ---- who has its place can step
 
 module _ (s : Store) (I : Inv s) (t : ℕ) (has : placed s (s .thread t) ≡ true) where
+  abbrev goes-on : Bool
+  goes-on = not (shapeAt (s .thread t .op) (s .thread t .line) .waits?)
+
   abbrev takes-none : Bool
   takes-none = not (takesH (s .thread t)) && not (takesN (s .thread t))
 
-  placed-takes : (not (waits? (shapeAt (s .thread t .op) (s .thread t .line))) && takes-none) ≡ true
+  placed-takes : (goes-on && takes-none) ≡ true
   placed-takes =
       rw has at (at-both take-rule (movesNow s) (s .thread t .op) (s .thread t .line)
       (everywhere (both take-rule) (rules .6) (s .thread t) (I .stands t)))
 
   pub placed-takesH : takesH (s .thread t) ≡ false
-  placed-takesH = not-true _ (and-left (not (takesH (s .thread t))) _ (and-right (not (waits? (shapeAt (s .thread t .op) (s .thread t .line)))) _ placed-takes))
+  placed-takesH = not-true _ (and-left (not (takesH (s .thread t))) _ (and-right goes-on takes-none placed-takes))
 
   pub placed-takesN : takesN (s .thread t) ≡ false
-  placed-takesN = not-true _ (and-right (not (takesH (s .thread t))) _ (and-right (not (waits? (shapeAt (s .thread t .op) (s .thread t .line)))) _ placed-takes))
+  placed-takesN = not-true _ (and-right (not (takesH (s .thread t))) _ (and-right goes-on takes-none placed-takes))
 
   pub placed-busy : (t < s .threads) × (isIdle (s .thread t) ≡ false)
   placed-busy = up-busy s I (placed s) refl t has
 
   verdict-going : (v : Verdict) → v ≡ verdict s t → Fine s t (s .thread t) v →
       Lands (shapeAt (s .thread t .op) (s .thread t .line)) (s .thread t) v → Going s t
-  verdict-going Blocked e f l = clash l (not-true _ (and-left (not (waits? (shapeAt (s .thread t .op) (s .thread t .line)))) _ placed-takes))
+  verdict-going Blocked e f l = clash l (not-true _ (and-left goes-on takes-none placed-takes))
   verdict-going Fault e f l = absurd f
   verdict-going (Go r′ x) e f l = told-going s t (placed-busy .0) (placed-busy .1) (Go r′ x) e refl
   verdict-going (Done v x) e f l = told-going s t (placed-busy .0) (placed-busy .1) (Done v x) e refl

@@ -3,10 +3,10 @@
 -- and no register but those that it set is set. So where nobody has a place, a step that takes the last lock leads to what the whole
 -- operation, run alone, leads to.
 -- Assumes nothing.
-use mathlib.Core.Path.{_≡_, refl, sym, ap, _∙_, subst, fun-ext}
+use mathlib.Core.Path.{_≡_, refl, sym, ap, _∙_, fun-ext}
 use mathlib.Core.Bool.{Bool, true, false, cond, _&&_, _||_}
-use mathlib.Core.List.{List, [], _∷_, _++_}
-use Prim.Native.Nat.{ℕ, zero, suc, _+_, _-_, _<_}
+use mathlib.Core.List.{List, [], _∷_}
+use Prim.Native.Nat.{ℕ, _+_, _-_, _<_}
 use native.Mathlib.Omega.{arith}
 use lib.Dec.{eqb, ltb}
 use borrow.Author.Tests.{eqb-true, lt-ltb}
@@ -15,18 +15,16 @@ use Rattle.meaning.specs.declared.Word.{Word}
 use Rattle.meaning.specs.declared.Word.the-variants.{Stay, Become}
 use Rattle.meaning.specs.declared.Entry.the-variants.{Keep}
 use Rattle.meaning.specs.declared.Effect.{Effect}
-use Rattle.meaning.specs.declared.Verdict.{Verdict}
 use Rattle.meaning.specs.declared.Verdict.the-variants.{Go}
-use Rattle.meaning.specs.Table.{upd}
 use Rattle.meaning.specs.Limits.{within}
-use Rattle.meaning.specs.Numbers.{WENT, FINISHED}
+use Rattle.meaning.specs.Numbers.{WENT}
 use Rattle.meaning.specs.Store.{Store, idle}
-use Rattle.meaning.specs.Holding.{none, free, by, heldBy, naming, named}
+use Rattle.meaning.specs.Holding.{none, by, heldBy, naming}
 use Rattle.meaning.specs.Programs.{WRITE, READ, UNMAP, LEVEL, actAt, lastLine, lastTake, unmovedTake}
-use Rattle.meaning.specs.Step.{perform, become, apply}
+use Rattle.meaning.specs.Step.{perform, become}
 use Rattle.meaning.specs.Call.{Reply, Entry, begin, step, callStore, isIdle, begun, storedN, storedC}
-use Rattle.meaning.specs.Schedule.{Answered, takesLast, run, finishedBy, steps, longest, operation, whole}
-use Rattle.meaning.proofs.Words.{same, either-way, clash, and-left, and-right, or-way, within-true, by-held, held-is, naming-not-free, named-naming}
+use Rattle.meaning.specs.Schedule.{takesLast, run, finishedBy, steps}
+use Rattle.meaning.proofs.Words.{same, either-way, and-left, and-right, or-way, within-true, by-held, held-is, naming-not-free, named-naming}
 use Rattle.meaning.proofs.Invariant.{Chosen, Facts, holdsH, holdsLock, ownsHeaders, ownsBlock, Inv}
 use Rattle.meaning.proofs.Lines.{at, From, _▸_, from-at}
 use Rattle.meaning.proofs.EveryLine.{open-line}
@@ -180,7 +178,8 @@ module _ (s : Store) (I : Inv s) (t : ℕ) (below : t < s .threads) where
   replay-unmoved : From-begin (at LEVEL 1 0 0 0 0 0)
   replay-unmoved = begun-then LEVEL 0 0 refl refl (plays-none _)
 
-  replay-level : (n p q h : ℕ) → Chosen s (at LEVEL 6 n 0 p q h) → s .header p ≡ h → h ≡ naming n → From-begin (at LEVEL 6 n 0 p q h)
+  replay-level : (n p q h : ℕ) → Chosen s (at LEVEL 6 n 0 p q h) → s .header p ≡ h → h ≡ naming n →
+      From-begin (at LEVEL 6 n 0 p q h)
   replay-level n p q h chosen heads names =
       begun-then LEVEL 0 0 refl refl
       (step-then (at LEVEL 1 0 0 0 0 0) (at LEVEL 2 0 0 0 0 0) none none (Become (by t)) Stay refl refl

@@ -70,7 +70,8 @@ pub serial-append : (p q : List Operation) → serial (p ++ q) ≡ serial p ++ s
 serial-append [] q = refl
 serial-append (o ∷ p) q =
     whole-append o (serial (p ++ q)) ∙ ap (λ (w : List Entry). whole o [] ++ w) (serial-append p q)
-    ∙ sym (append-assoc (whole o []) (serial p) (serial q)) ∙ ap (λ (w : List Entry). w ++ serial q) (sym (whole-append o (serial p)))
+    ∙ sym (append-assoc (whole o []) (serial p) (serial q))
+    ∙ ap (λ (w : List Entry). w ++ serial q) (sym (whole-append o (serial p)))
 
 -- ---- a step that is refused or waits leaves the store as it was
 

@@ -4,13 +4,12 @@
 -- Assumes nothing.
 use mathlib.Core.Path.{_≡_, refl, sym, ap, _∙_, subst}
 use mathlib.Core.Bool.{Bool, true, false, _&&_, _||_, and-false}
-use mathlib.Core.List.{List, [], _∷_}
+use mathlib.Core.List.{List, []}
 use Prim.Native.Nat.{ℕ, _<_}
 use lib.Dec.{eqb, ltb}
 use borrow.Author.Tests.{eqb-true, eqb-false, ne-eqb}
 use Rattle.meaning.specs.declared.Thread.{Thread}
 use Rattle.meaning.specs.declared.Effect.{Effect}
-use Rattle.meaning.specs.declared.Verdict.{Verdict}
 use Rattle.meaning.specs.Numbers.{FINISHED}
 use Rattle.meaning.specs.Store.{Store, idle}
 use Rattle.meaning.specs.Holding.{none}
@@ -21,12 +20,13 @@ use Rattle.meaning.specs.Step.{nothing, verdict, apply}
 use Rattle.meaning.specs.Call.{Reply, step, callStore, isIdle, begun}
 use Rattle.meaning.specs.Schedule.{Answered, emit, takesLast, finishing}
 use Rattle.meaning.proofs.Words.{either-way, clash, upd-other, upd-each}
-use Rattle.meaning.proofs.Invariant.{takesH, takesN, Guards, Inv}
+use Rattle.meaning.proofs.Invariant.{takesH, Guards, Inv}
 use Rattle.meaning.proofs.Keeping.{Moves, moves-inv}
 use Rattle.meaning.proofs.EveryLine.{idle-is, begins}
 use Rattle.meaning.proofs.Demand1.{inv-call}
-use Rattle.meaning.proofs.EitherOrder.{sameTake, sameTake-sym, Goes, Going, left-by, answered, going-reply, going-moves, goes-unblocked, verdict-alike, applies-commute}
-use Rattle.meaning.proofs.Places.{Quiet, went, over, Came, going-came, first-unplaced, placed, placed-takesH, placed-takesN, placed-going, placed-kept, last-kept}
+use Rattle.meaning.proofs.EitherOrder.{sameTake, sameTake-sym, Goes, Going, left-by, going-reply, going-moves, goes-unblocked, verdict-alike, applies-commute}
+use Rattle.meaning.proofs.Shapes.{Quiet}
+use Rattle.meaning.proofs.Places.{went, over, Came, going-came, first-unplaced, placed, placed-takesH, placed-takesN, placed-going, placed-kept, last-kept}
 
 -- ---- what is said
 
@@ -56,13 +56,17 @@ stepped s t = callStore s (step t) .after
 abbrev pub answering : Store → ℕ → ℕ → List Answered → List Answered
 answering s t u l = finishing callStore (λ s. s) s u (step t) l
 
+pub stepped-is : (s : Store) (t : ℕ) (g : Going s t) → stepped s t ≡ left-by s t g
+stepped-is s t g = ap (λ (x : Reply Store). x .after) (going-reply s t g)
+
 pub data Settles : Store → Store → (ℕ → List Answered) → Type 0 where
   rest : {s d : Store} {a : ℕ → List Answered} → ((v : ℕ) → placed s (s .thread v) ≡ false) → d ≡ cleared s →
       ((u : ℕ) → a u ≡ []) → Settles s d a
   more : {s d : Store} {a b : ℕ → List Answered} → (t : ℕ) → placed s (s .thread t) ≡ true → Settles (stepped s t) d b →
       ((u : ℕ) → a u ≡ answering s t u (b u)) → Settles s d a
 
-pub settles-alike : {s d d′ : Store} {a a′ : ℕ → List Answered} → Settles s d a → d′ ≡ d → ((u : ℕ) → a′ u ≡ a u) → Settles s d′ a′
+pub settles-alike : {s d d′ : Store} {a a′ : ℕ → List Answered} → Settles s d a → d′ ≡ d → ((u : ℕ) → a′ u ≡ a u) →
+    Settles s d′ a′
 settles-alike {s} {d} {d′} {a} {a′} S to is = subst (λ (x : Store). Settles s x a′) (sym to) (go S)
   where
     go : Settles s d a → Settles s d a′
@@ -107,12 +111,12 @@ module _ (s : Store) (I : Inv s) (t : ℕ) (r′ : Thread) (e : Effect) (M : Mov
 
   pub stepped-after : stepped left u ≡ apply (stepped s u) t r′ e
   stepped-after =
-      ap (λ (x : Reply Store). x .after) (going-reply left u k-after)
+      stepped-is left u k-after
       ∙ applies-commute t u apart s (s .thread t) (s .thread u) r′ (k .becomes) e (k .effect) (M .guards)
       (going-moves s u I k .guards)
       (subst (λ (r : Thread). Guards left u r (k .effect)) (upd-other (s .thread) t u r′ apart)
       (going-moves left u (moves-inv s I t r′ e M below) k-after .guards))
-      ∙ sym (ap (λ (x : Reply Store). apply (x .after) t r′ e) (going-reply s u k))
+      ∙ sym (ap (λ (x : Store). apply x t r′ e) (stepped-is s u k))
 
 -- what s comes to after the move: Rel says what becomes of the answers
 pub record Moved (s d : Store) (Rel : ℕ → List Answered → List Answered → Type 0) (a : ℕ → List Answered) : Type 0 where
@@ -190,7 +194,7 @@ module _ (t : ℕ) (r : Thread) (number value : ℕ) (r′ : Thread) (e : Effect
   ready-moves s I C = going-moves s t I (ready-going s C)
 
   pub ready-stepped : (s : Store) (C : Can s) → stepped s t ≡ apply s t r′ e
-  ready-stepped s C = ap (λ (x : Reply Store). x .after) (going-reply s t (ready-going s C))
+  ready-stepped s C = stepped-is s t (ready-going s C)
 
   -- what its step answers
   abbrev pub answer-of : ℕ → List Answered → List Answered
@@ -208,7 +212,7 @@ module _ (t : ℕ) (r : Thread) (number value : ℕ) (r′ : Thread) (e : Effect
       let same : upd (s .thread) u (k .becomes) t ≡ s .thread t = upd-other (s .thread) u t (k .becomes) others in
       let takes =
       sameTake-sym (s .thread t) (s .thread u) (takes-apart s I t r′ e (ready-moves s I C) (C .below) u apart has) in
-      subst Can (sym (ap (λ (x : Reply Store). x .after) (going-reply s u k)))
+      subst Can (sym (stepped-is s u k))
       (record {
         is = same ∙ C .is;
         below = C .below;
@@ -286,7 +290,7 @@ module _ (t op n c : ℕ) (known : within WRITE LEVEL op ≡ true) where
   begins-still : (s : Store) → Inv s → Begins s → (u : ℕ) → (t ≡ u → ⊥) → placed s (s .thread u) ≡ true → Begins (stepped s u)
   begins-still s I C u apart has =
       let k = placed-going s I u has in
-      subst Begins (sym (ap (λ (x : Reply Store). x .after) (going-reply s u k)))
+      subst Begins (sym (stepped-is s u k))
       (record {
         below = C .below;
         rests = rw (ne-eqb u t (λ x. apart (sym x))) (C .rests);
@@ -298,7 +302,8 @@ module _ (t op n c : ℕ) (known : within WRITE LEVEL op ≡ true) where
   begin-settles {d = d} =
       moved-settles t (begun op n c) nothing d d Begins Alike begins-moves (λ s C. C .below) begins-still
       (λ s a I C nobody is none.
-      rest-kept s I t (begun op n c) nothing (begins-moves s I C) (record { map = refl; header = refl; content = refl; wear = refl })
+      rest-kept s I t (begun op n c) nothing (begins-moves s I C)
+      (record { map = refl; header = refl; content = refl; wear = refl })
       (first-unplaced (apply s t (begun op n c) nothing) (begun op n c) (begins-moves s I C .stands) refl) d a nobody is none)
       (λ s a b I C has S is. clash has (idle-unplaced s I C))
       (alike-others t)

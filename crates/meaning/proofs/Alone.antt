@@ -2,7 +2,7 @@
 -- its place in the order comes there to what it comes to in s, and within as many steps as the longest program has lines.
 -- Assumes nothing.
 use mathlib.Core.Path.{_≡_, refl, sym, ap, _∙_, subst, fun-ext}
-use mathlib.Core.Bool.{true, false, cond}
+use mathlib.Core.Bool.{Bool, true, false, cond}
 use mathlib.Core.List.{List, []}
 use Prim.Native.Nat.{ℕ, zero, suc, _+_, _<_}
 use native.Mathlib.Omega.{arith}
@@ -19,13 +19,13 @@ use Rattle.meaning.specs.declared.Effect.{Effect}
 use Rattle.meaning.specs.declared.Verdict.the-variants.{Blocked, Fault}
 use Rattle.meaning.specs.Table.{upd}
 use Rattle.meaning.specs.Store.{Store, idle}
-use Rattle.meaning.specs.Holding.{none, free, heldBy}
+use Rattle.meaning.specs.Holding.{none, free, by, heldBy}
 use Rattle.meaning.specs.Programs.{actAt}
 use Rattle.meaning.specs.Step.{block, perform, verdict, become, put, apply}
 use Rattle.meaning.specs.Call.{Reply, step, callStore, isIdle}
 use Rattle.meaning.specs.Schedule.{Answered, run, finishedBy, steps, longest}
-use Rattle.meaning.proofs.Words.{same, either-way, by-held, none-held, upd-same, upd-other}
-use Rattle.meaning.proofs.Invariant.{takesH, takesLock, Passes, takes, gives, Changes, Puts, Guards, Inv}
+use Rattle.meaning.proofs.Words.{same, either-way, by-held, held-is, none-held, upd-same, upd-other}
+use Rattle.meaning.proofs.Invariant.{holdsH, holdsLock, ownsHeaders, ownsBlock, takesH, takesLock, Passes, takes, gives, Changes, Puts, Guards, Inv}
 use Rattle.meaning.proofs.Keeping.{everywhere}
 use Rattle.meaning.proofs.EveryLine.{idle-is}
 use Rattle.meaning.proofs.Demand1.{inv-call, no-fault}
@@ -36,7 +36,7 @@ use Rattle.meaning.proofs.Settles.{cleared, stepped, stepped-is, answer
 -- ---- what is said
 
 -- a lock or owner word, if it is t's
-abbrev pub mine : ℕ → ℕ → ℕ
+abbrev mine : ℕ → ℕ → ℕ
 mine t w = cond (heldBy t w) w none
 
 abbrev pub alone : ℕ → Store → Store
@@ -195,29 +195,61 @@ idle-answers zero x t rests u = refl
 idle-answers (suc k) x t rests u = idle-unanswered x t rests u _
     ∙ ap (λ (y : Store). finishedBy callStore (λ s. s) y u (steps k t [])) (idle-steps x t rests) ∙ idle-answers k x t rests u
 
-alone-idle : (s : Store) → Inv s → (t : ℕ) → s .thread t ≡ idle → alone t s ≡ cleared s
-alone-idle s I t is =
+-- t alone is at work, and has no number's lock and no block
+abbrev pub with-threads : Store → (ℕ → Thread) → ℕ → ℕ → Store
+with-threads s f l o =
+    record {
+      threads = s .threads;
+      numbers = s .numbers;
+      blocks = s .blocks;
+      distance = s .distance;
+      lock = l;
+      owner = o;
+      thread = f;
+      map = s .map;
+      locks = λ _. none;
+      header = s .header;
+      content = s .content;
+      wear = s .wear;
+      own = λ _. none;
+    }
+
+abbrev pub solo : Store → ℕ → Thread → ℕ → ℕ → Store
+solo s t r l o = with-threads s (λ v. cond (eqb t v) r idle) l o
+
+-- t's words, from what its record says
+mine-if : (t w : ℕ) (flag : Bool) → heldBy t w ≡ flag → mine t w ≡ cond flag (by t) none
+mine-if t w true h = rw h (held-is t w h)
+mine-if t w false h = rw h
+
+pub alone-solo : (s : Store) → Inv s → (t : ℕ) (r : Thread) → s .thread t ≡ r → ((k : ℕ) → holdsLock r k ≡ false) →
+    ((m : ℕ) → ownsBlock r m ≡ false) →
+    alone t s ≡ solo s t r (cond (holdsH r) (by t) none) (cond (ownsHeaders r) (by t) none)
+alone-solo s I t r is locks own =
     λ i. record {
       threads = s .threads;
       numbers = s .numbers;
       blocks = s .blocks;
       distance = s .distance;
-      lock = lacks (s .lock) (I .holds t .lock ∙ rw is) i;
-      owner = lacks (s .owner) (I .holds t .owner ∙ rw is) i;
+      lock = mine-if t (s .lock) (holdsH r) (I .holds t .lock ∙ ap holdsH is) i;
+      owner = mine-if t (s .owner) (ownsHeaders r) (I .holds t .owner ∙ ap ownsHeaders is) i;
       thread = threads i;
       map = s .map;
-      locks = λ k. lacks (s .locks k) (I .holds t .locks k ∙ rw is) i;
+      locks = λ k. mine-if t (s .locks k) false (I .holds t .locks k ∙ ap (λ (r : Thread). holdsLock r k) is ∙ locks k) i;
       header = s .header;
       content = s .content;
       wear = s .wear;
-      own = λ m. lacks (s .own m) (I .holds t .own m ∙ rw is) i;
+      own = λ m. mine-if t (s .own m) false (I .holds t .own m ∙ ap (λ (r : Thread). ownsBlock r m) is ∙ own m) i;
     }
   where
-    lacks : (w : ℕ) → heldBy t w ≡ false → mine t w ≡ none
-    lacks w h = rw h
-
-    threads : _≡_ {A = ℕ → Thread} (λ v. cond (eqb t v) (s .thread v) idle) (λ v. idle)
+    threads : _≡_ {A = ℕ → Thread} (λ v. cond (eqb t v) (s .thread v) idle) (λ v. cond (eqb t v) r idle)
     threads = fun-ext (λ v. either-way (eqb t v) (λ e. rw (e, ← eqb-true t v e) is) (λ e. rw e))
+
+alone-idle : (s : Store) → Inv s → (t : ℕ) → s .thread t ≡ idle → alone t s ≡ cleared s
+alone-idle s I t is =
+    alone-solo s I t idle is (λ k. refl) (λ m. refl)
+    ∙ ap (λ (f : ℕ → Thread). with-threads s f none none)
+    (fun-ext (λ v. either-way (eqb t v) (λ e. rw e) (λ e. rw e)))
 
 -- ---- a thread that has its place runs to its end
 

@@ -2,7 +2,7 @@
 -- gives its own thread a place, a step that ends takes it away, and no other step gives or takes one, of its own thread or another.
 -- What a line does to its thread's record and to the tables is said by the shape of its act (Shapes); the rest is tests at every line.
 -- Assumes nothing.
-use mathlib.Core.Path.{_≡_, refl, sym, ap, _∙_, subst}
+use mathlib.Core.Path.{_≡_, refl, sym, ap, _∙_, subst, fun-ext}
 use mathlib.Core.Bool.{Bool, true, false, not, _&&_, _||_}
 use mathlib.Core.Logic.{_⊎_, inl, inr}
 use Prim.Native.Nat.{ℕ, _+_, _<_}
@@ -10,8 +10,6 @@ use native.Mathlib.Omega.{arith}
 use lib.Dec.{eqb, ltb}
 use borrow.Author.Tests.{eqb-true, eqb-false, eq-eqb, ltb-true, not-true}
 use Rattle.meaning.specs.declared.Thread.{Thread}
-use Rattle.meaning.specs.declared.Entry.{Entry}
-use Rattle.meaning.specs.declared.Entry.the-variants.{Keep, Put}
 use Rattle.meaning.specs.declared.Effect.{Effect}
 use Rattle.meaning.specs.declared.Found.the-variants.{At}
 use Rattle.meaning.specs.declared.Verdict.{Verdict}
@@ -25,8 +23,8 @@ use Rattle.meaning.specs.Step.{verdict, put, apply}
 use Rattle.meaning.specs.Call.{isIdle, storedN, storedC}
 use Rattle.meaning.specs.Schedule.{takesLast, operation}
 use Rattle.meaning.proofs.Words.{either-way, clash, and-left, and-right, or-way, free-held, held-once}
-use Rattle.meaning.proofs.Invariant.{_–_, never, row, h-heads-p, chosen-now, q-free, holdsH, ownsHeaders, takesH, takesN, Stands, Puts, GuardsHeader, GuardsWear, Inv}
-use Rattle.meaning.proofs.Keeping.{standing, everyLine, everywhere, up, Moves}
+use Rattle.meaning.proofs.Invariant.{_–_, never, row, h-heads-p, chosen-now, q-free, holdsH, ownsHeaders, takesH, takesN, Stands, GuardsHeader, GuardsWear, Inv}
+use Rattle.meaning.proofs.Keeping.{standing, everyLine, everywhere, up, put-kept, Moves}
 use Rattle.meaning.proofs.Lines.{Fine}
 use Rattle.meaning.proofs.EveryLine.{fine}
 use Rattle.meaning.proofs.Demand1.{up-busy}
@@ -347,26 +345,17 @@ module _ (s : Store) (I : Inv s) (t : ℕ) (has : placed s (s .thread t) ≡ tru
 
 -- ---- another thread's step leaves places as they are
 
--- an entry that nobody may write stays
-puts-none : (c : Entry) (f : ℕ → ℕ) → Puts c (λ _ _. ⊥) → put c f ≡ f
-puts-none Keep f x = refl
-puts-none (Put i w) f x = absurd x
-
-puts-map : (c : Entry) (g h : ℕ → ℕ → Type 0) → ((k w : ℕ) → g k w → h k w) → Puts c g → Puts c h
-puts-map Keep g h f x = tt
-puts-map (Put i w) g h f x = f i w x
-
 module _ (s : Store) (I : Inv s) (t : ℕ) (r′ : Thread) (e : Effect) (M : Moves s t (s .thread t) r′ e) where
   -- headers and wear change only under H
   moves-kept : holdsH (s .thread t) ≡ false → movesNow (apply s t r′ e) ≡ movesNow s
   moves-kept x =
-      rw (
-        puts-none (e .header) (s .header) (puts-map (e .header) (λ m w. GuardsHeader s t m) (λ _ _. ⊥)
-            (λ m w g. clash (up ownsHeaders holdsH refl (s .thread t) (I .stands t) (sym (I .holds t .owner) ∙ g .owner)) x)
-            (M .guards .header)),
-        puts-none (e .wear) (s .wear) (puts-map (e .wear) (λ m w. GuardsWear s t m) (λ _ _. ⊥)
-            (λ m w g. clash (sym (I .holds t .lock) ∙ g .lock) x) (M .guards .wear)),
-      )
+      let header : put (e .header) (s .header) ≡ s .header =
+      fun-ext (λ m. put-kept (e .header) (s .header) (λ m w. GuardsHeader s t m) (M .guards .header) m
+      (λ w g. clash (up ownsHeaders holdsH refl (s .thread t) (I .stands t) (sym (I .holds t .owner) ∙ g .owner)) x)) in
+      let wear : put (e .wear) (s .wear) ≡ s .wear =
+      fun-ext (λ m. put-kept (e .wear) (s .wear) (λ m w. GuardsWear s t m) (M .guards .wear) m
+      (λ w g. clash (sym (I .holds t .lock) ∙ g .lock) x)) in
+      rw (header, wear)
 
   module _ (v : ℕ) (apart : t ≡ v → ⊥) where
     pub placed-kept : placed (apply s t r′ e) (s .thread v) ≡ placed s (s .thread v)

@@ -3,8 +3,8 @@
 -- and no register but those that it set is set. So where nobody has a place, a step that takes the last lock leads to what the whole
 -- operation, run alone, leads to.
 -- Assumes nothing.
-use mathlib.Core.Path.{_≡_, refl, sym, ap, _∙_, fun-ext}
-use mathlib.Core.Bool.{Bool, true, false, cond, _&&_, _||_}
+use mathlib.Core.Path.{_≡_, refl, sym, ap, _∙_}
+use mathlib.Core.Bool.{true, false, cond, _&&_, _||_}
 use mathlib.Core.List.{List, [], _∷_}
 use Prim.Native.Nat.{ℕ, _+_, _-_, _<_}
 use native.Mathlib.Omega.{arith}
@@ -18,18 +18,18 @@ use Rattle.meaning.specs.declared.Effect.{Effect}
 use Rattle.meaning.specs.declared.Verdict.the-variants.{Go}
 use Rattle.meaning.specs.Limits.{within}
 use Rattle.meaning.specs.Numbers.{WENT}
-use Rattle.meaning.specs.Store.{Store, idle}
-use Rattle.meaning.specs.Holding.{none, by, heldBy, naming}
+use Rattle.meaning.specs.Store.{Store}
+use Rattle.meaning.specs.Holding.{none, by, naming}
 use Rattle.meaning.specs.Programs.{WRITE, READ, UNMAP, LEVEL, actAt, lastLine, lastTake, unmovedTake}
 use Rattle.meaning.specs.Step.{perform, become}
 use Rattle.meaning.specs.Call.{Reply, Entry, begin, step, callStore, isIdle, begun, storedN, storedC}
 use Rattle.meaning.specs.Schedule.{takesLast, run, finishedBy, steps}
-use Rattle.meaning.proofs.Words.{same, either-way, and-left, and-right, or-way, within-true, by-held, held-is, naming-not-free, named-naming}
+use Rattle.meaning.proofs.Words.{same, and-left, and-right, or-way, within-true, by-held, naming-not-free, named-naming}
 use Rattle.meaning.proofs.Invariant.{Chosen, Facts, holdsH, holdsLock, ownsHeaders, ownsBlock, Inv}
 use Rattle.meaning.proofs.Lines.{at, From, _▸_, from-at}
 use Rattle.meaning.proofs.EveryLine.{open-line}
 use Rattle.meaning.proofs.Settles.{cleared}
-use Rattle.meaning.proofs.Alone.{alone, mine, threads-alone}
+use Rattle.meaning.proofs.Alone.{alone, with-threads, solo, alone-solo, threads-alone}
 
 -- ---- schedules that go, and finish nothing
 
@@ -58,28 +58,7 @@ plays-next x x′ y (step t) w is P =
       silent = λ u. rw went (ap (λ (z : Store). finishedBy callStore (λ s. s) z u w) to ∙ P .silent u);
     }
 
--- ---- a store in which t alone is at work, and has no number's lock and no block
-
-abbrev with-threads : Store → (ℕ → Thread) → ℕ → ℕ → Store
-with-threads s f l o =
-    record {
-      threads = s .threads;
-      numbers = s .numbers;
-      blocks = s .blocks;
-      distance = s .distance;
-      lock = l;
-      owner = o;
-      thread = f;
-      map = s .map;
-      locks = λ _. none;
-      header = s .header;
-      content = s .content;
-      wear = s .wear;
-      own = λ _. none;
-    }
-
-abbrev solo : Store → ℕ → Thread → ℕ → ℕ → Store
-solo s t r l o = with-threads s (λ v. cond (eqb t v) r idle) l o
+-- ---- a step of a thread that has no number's lock and no block
 
 -- an effect on H and the headers' owner alone
 abbrev onHeld : Word → Word → Effect
@@ -97,34 +76,6 @@ module _ (s : Store) (t : ℕ) (below : t < s .threads) where
   solo-step r r′ l o a b busy is =
       rw (lt-ltb t (s .threads) below, same t, busy, is)
       (ap (λ (f : ℕ → Thread). went-to (with-threads s f (become a l) (become b o))) (threads-alone t (λ _. r) (λ _. r′) r′ refl))
-
--- t's words, from what its record says
-mine-if : (t w : ℕ) (flag : Bool) → heldBy t w ≡ flag → mine t w ≡ cond flag (by t) none
-mine-if t w true h = rw h (held-is t w h)
-mine-if t w false h = rw h
-
-alone-solo : (s : Store) → Inv s → (t : ℕ) (r : Thread) → s .thread t ≡ r → ((k : ℕ) → holdsLock r k ≡ false) →
-    ((m : ℕ) → ownsBlock r m ≡ false) →
-    alone t s ≡ solo s t r (cond (holdsH r) (by t) none) (cond (ownsHeaders r) (by t) none)
-alone-solo s I t r is locks own =
-    λ i. record {
-      threads = s .threads;
-      numbers = s .numbers;
-      blocks = s .blocks;
-      distance = s .distance;
-      lock = mine-if t (s .lock) (holdsH r) (I .holds t .lock ∙ ap holdsH is) i;
-      owner = mine-if t (s .owner) (ownsHeaders r) (I .holds t .owner ∙ ap ownsHeaders is) i;
-      thread = threads i;
-      map = s .map;
-      locks = λ k. mine-if t (s .locks k) false (I .holds t .locks k ∙ ap (λ (r : Thread). holdsLock r k) is ∙ locks k) i;
-      header = s .header;
-      content = s .content;
-      wear = s .wear;
-      own = λ m. mine-if t (s .own m) false (I .holds t .own m ∙ ap (λ (r : Thread). ownsBlock r m) is ∙ own m) i;
-    }
-  where
-    threads : _≡_ {A = ℕ → Thread} (λ v. cond (eqb t v) (s .thread v) idle) (λ v. cond (eqb t v) r idle)
-    threads = fun-ext (λ v. either-way (eqb t v) (λ e. rw (e, ← eqb-true t v e) is) (λ e. rw e))
 
 -- ---- up to the last lock
 

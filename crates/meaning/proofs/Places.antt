@@ -132,10 +132,30 @@ at-both : (rule : Bool → ℕ → ℕ → Bool) (m : Bool) (op line : ℕ) → 
 at-both rule true op line x = and-left (rule true op line) _ x
 at-both rule false op line x = and-right (rule true op line) _ x
 
-rules : (everyLine ends-rule ≡ true) × (everyLine (both next-rule) ≡ true) × (everyLine write-rule ≡ true)
-    × (everyLine (both last-rule) ≡ true) × (everyLine work-rule ≡ true) × (everyLine up-rule ≡ true)
-    × (everyLine (both take-rule) ≡ true) × (everyLine (both first-rule) ≡ true) × (everyLine (both branch-rule) ≡ true)
-rules = (refl, refl, refl, refl, refl, refl, refl, refl, refl)
+record Rules : Type 0 where
+  ends : everyLine ends-rule ≡ true
+  next : everyLine (both next-rule) ≡ true
+  branch : everyLine (both branch-rule) ≡ true
+  write : everyLine write-rule ≡ true
+  take : everyLine (both take-rule) ≡ true
+  last : everyLine (both last-rule) ≡ true
+  work : everyLine work-rule ≡ true
+  first : everyLine (both first-rule) ≡ true
+  up : everyLine up-rule ≡ true
+
+rules : Rules
+rules =
+    record {
+      ends = refl;
+      next = refl;
+      branch = refl;
+      write = refl;
+      take = refl;
+      last = refl;
+      work = refl;
+      first = refl;
+      up = refl;
+    }
 
 -- ---- where levelling branches
 
@@ -188,71 +208,75 @@ moves-quiet : (s : Store) (t : ℕ) (r′ : Thread) (e : Effect) → Quiet e →
 moves-quiet s t r′ e q = rw (q .header, q .wear)
 
 module _ (s : Store) (I : Inv s) (t : ℕ) (busy : isIdle (s .thread t) ≡ false) where
-  abbrev a : Shape
-  a = shapeAt (s .thread t .op) (s .thread t .line)
+  abbrev op : ℕ
+  op = s .thread t .op
 
-  rule : (test : ℕ → ℕ → Bool) → everyLine test ≡ true → test (s .thread t .op) (s .thread t .line) ≡ true
+  abbrev line : ℕ
+  line = s .thread t .line
+
+  abbrev a : Shape
+  a = shapeAt op line
+
+  -- whether it has its place next
+  abbrev then-placed : Bool
+  then-placed = placed s (s .thread t) || takesLast s (s .thread t)
+
+  rule : (test : ℕ → ℕ → Bool) → everyLine test ≡ true → test op line ≡ true
   rule test all = everywhere test all (s .thread t) (I .stands t)
 
   module _ (r′ : Thread) (e : Effect) (O : Onto a (s .thread t) r′ e) where
     -- what holds of both lines to which it may go holds of the one
-    at-next : (P : ℕ → Type 0) → P (s .thread t .line + 1) → P (a .jump (s .thread t .line)) → P (r′ .line)
+    at-next : (P : ℕ → Type 0) → P (line + 1) → P (a .jump line) → P (r′ .line)
     at-next P x y = go (O .line)
       where
-        go : (r′ .line ≡ s .thread t .line + 1) ⊎ (r′ .line ≡ a .jump (s .thread t .line)) → P (r′ .line)
+        go : (r′ .line ≡ line + 1) ⊎ (r′ .line ≡ a .jump line) → P (r′ .line)
         go (inl z) = subst P (sym z) x
         go (inr z) = subst P (sym z) y
 
-    went-up : s .thread t .line < r′ .line
-    went-up =
-        at-next (λ l. s .thread t .line < l) (omega arith) (ltb-true (s .thread t .line) _ (rule up-rule (rules .5)))
+    went-up : line < r′ .line
+    went-up = at-next (λ l. line < l) (omega arith) (ltb-true line _ (rule up-rule (rules .up)))
 
-    went-work : operation t (r′ .op) (r′ .n) (r′ .c) ≡ operation t (s .thread t .op) (s .thread t .n) (s .thread t .c)
+    went-work : operation t (r′ .op) (r′ .n) (r′ .c) ≡ operation t op (s .thread t .n) (s .thread t .c)
     went-work =
-        let rules = rule work-rule (rules .4) in
-        let n : storedN (r′ .op) (r′ .n) ≡ storedN (s .thread t .op) (s .thread t .n) =
-        rw (O .op) (either-way (eqb (s .thread t .op) LEVEL) (λ x. rw x)
-        (λ x. rw x (rw (rw x at (and-right (not (eqb (s .thread t .op) WRITE) || a .keepsC) _ rules)) at (O .n)))) in
-        let c : storedC (r′ .op) (r′ .c) ≡ storedC (s .thread t .op) (s .thread t .c) =
-        rw (O .op) (either-way (eqb (s .thread t .op) WRITE)
-        (λ x. rw x (rw (rw x at (and-left (not (eqb (s .thread t .op) WRITE) || a .keepsC) _ rules)) at (O .c)))
+        let keeps = rule work-rule (rules .work) in
+        let n : storedN (r′ .op) (r′ .n) ≡ storedN op (s .thread t .n) =
+        rw (O .op) (either-way (eqb op LEVEL) (λ x. rw x)
+        (λ x. rw x (rw (rw x at (and-right (not (eqb op WRITE) || a .keepsC) _ keeps)) at (O .n)))) in
+        let c : storedC (r′ .op) (r′ .c) ≡ storedC op (s .thread t .c) =
+        rw (O .op) (either-way (eqb op WRITE)
+        (λ x. rw x (rw (rw x at (and-left (not (eqb op WRITE) || a .keepsC) _ keeps)) at (O .c)))
         (λ x. rw x)) in
         λ i. record { thread = t; op = O .op i; number = n i; word = c i }
 
     went-quiet : placed s (s .thread t) ≡ false → Quiet e
     went-quiet x =
-        or-way (a .quiet?) _ (rule write-rule (rules .2)) (λ q. rw q at (O .quiet))
-        (λ y. clash refl (rw (and-left (pastLast (standing (s .thread t .op) (s .thread t .line))) _ y) at x))
+        or-way (a .quiet?) _ (rule write-rule (rules .write)) (λ q. rw q at (O .quiet))
+        (λ y. clash refl (rw (and-left (pastLast (standing op line)) _ y) at x))
 
-    went-place : placed (apply s t r′ e) r′ ≡ (placed s (s .thread t) || takesLast s (s .thread t))
+    went-place : placed (apply s t r′ e) r′ ≡ then-placed
     went-place =
-        or-way (a .quiet?) _ (rule write-rule (rules .2))
+        or-way (a .quiet?) _ (rule write-rule (rules .write))
         (λ q. rw (
           moves-quiet s t r′ e (rw q at (O .quiet)),
-          placed-at (movesNow s) r′ (s .thread t .op) (r′ .line) (O .op) refl,
-        ) (either-way (branches (s .thread t .op) (s .thread t .line)) branching straight))
+          placed-at (movesNow s) r′ op (r′ .line) (O .op) refl,
+        ) (either-way (branches op line) branching straight))
         (λ y.
-        let was = and-left (pastLast (standing (s .thread t .op) (s .thread t .line))) _ y in
-        let next = and-right (pastLast (standing (s .thread t .op) (s .thread t .line))) _ y in
-        let is : pastLast (standing (s .thread t .op) (r′ .line)) ≡ true =
-        at-next (λ l. pastLast (standing (s .thread t .op) l) ≡ true)
-        (and-left (pastLast (standing (s .thread t .op) (s .thread t .line + 1))) _ next)
-        (and-right (pastLast (standing (s .thread t .op) (s .thread t .line + 1))) _ next) in
+        let was = and-left (pastLast (standing op line)) _ y in
+        let next = and-right (pastLast (standing op line)) _ y in
+        let is : pastLast (standing op (r′ .line)) ≡ true =
+        at-next (λ l. pastLast (standing op l) ≡ true)
+        (and-left (pastLast (standing op (line + 1))) _ next)
+        (and-right (pastLast (standing op (line + 1))) _ next) in
         rw (O .op, is, was))
       where
-        branching : branches (s .thread t .op) (s .thread t .line) ≡ true →
-            placedWhere (movesNow s) (standing (s .thread t .op) (r′ .line)) ≡
-            (placed s (s .thread t) || takesLast s (s .thread t))
+        branching : branches op line ≡ true →
+            placedWhere (movesNow s) (standing op (r′ .line)) ≡ then-placed
         branching b =
-            let op = s .thread t .op in
-            let line = s .thread t .line in
             let m = branch-moves s I t b in
-            let x = rw b at (at-both branch-rule (movesNow s) op line (rule (both branch-rule) (rules .8))) in
+            let x = rw b at (at-both branch-rule (movesNow s) op line (rule (both branch-rule) (rules .branch))) in
             let y = and-right (not (a .keepsN)) _ x in
-            let z =
-            and-right (alike (placed s (s .thread t) || takesLast s (s .thread t)) (not (movesNow s))) _ y in
-            let was : (placed s (s .thread t) || takesLast s (s .thread t)) ≡ not (movesNow s) =
-            alike-is _ _ (and-left (alike (placed s (s .thread t) || takesLast s (s .thread t)) (not (movesNow s))) _ y) in
+            let z = and-right (alike then-placed (not (movesNow s))) _ y in
+            let was = alike-is _ _ (and-left (alike then-placed (not (movesNow s))) _ y) in
             let to = rw (and-left (not (a .keepsN)) _ x) at (O .branch) in
             either-way (free (s .thread t .h))
             (λ f.
@@ -265,19 +289,14 @@ module _ (s : Store) (I : Inv s) (t : ℕ) (busy : isIdle (s .thread t) ≡ fals
             ap (λ (k : ℕ). placedWhere (movesNow s) (standing op k)) l
             ∙ not-true _ (and-right (pastLast (standing op (a .jump line))) _ z) ∙ sym (was ∙ rw (m, f)))
 
-        straight : branches (s .thread t .op) (s .thread t .line) ≡ false →
-            placedWhere (movesNow s) (standing (s .thread t .op) (r′ .line)) ≡
-            (placed s (s .thread t) || takesLast s (s .thread t))
+        straight : branches op line ≡ false →
+            placedWhere (movesNow s) (standing op (r′ .line)) ≡ then-placed
         straight b =
             let x =
-            rw (busy, O .goes, b) at (at-both next-rule (movesNow s) (s .thread t .op) (s .thread t .line)
-            (rule (both next-rule) (rules .1))) in
-            at-next (λ l. placedWhere (movesNow s) (standing (s .thread t .op) l) ≡
-            (placed s (s .thread t) || takesLast s (s .thread t)))
-            (alike-is _ _ (and-left (alike (placedWhere (movesNow s) (standing (s .thread t .op) (s .thread t .line + 1)))
-            (placed s (s .thread t) || takesLast s (s .thread t))) _ x))
-            (alike-is _ _ (and-right (alike (placedWhere (movesNow s) (standing (s .thread t .op) (s .thread t .line + 1)))
-            (placed s (s .thread t) || takesLast s (s .thread t))) _ x))
+            rw (busy, O .goes, b) at (at-both next-rule (movesNow s) op line (rule (both next-rule) (rules .next))) in
+            at-next (λ l. placedWhere (movesNow s) (standing op l) ≡ then-placed)
+            (alike-is _ _ (and-left (alike (placedWhere (movesNow s) (standing op (line + 1))) then-placed) _ x))
+            (alike-is _ _ (and-right (alike (placedWhere (movesNow s) (standing op (line + 1))) then-placed) _ x))
 
     went-all : Went s t r′ e
     went-all = record { place = went-place; work = went-work; op = O .op; up = went-up; quiet = went-quiet }
@@ -285,8 +304,7 @@ module _ (s : Store) (I : Inv s) (t : ℕ) (busy : isIdle (s .thread t) ≡ fals
   goes-came : (v : Verdict) (n x : ℕ) (r′ : Thread) (e : Effect) → Goes v n x r′ e → Lands a (s .thread t) v →
       Came s t n r′ e
   goes-came v n x r′ e goes O = went refl (went-all r′ e O)
-  goes-came v n x r′ e ends d =
-      over refl refl (rw (rw d at (rule ends-rule (rules .0))))
+  goes-came v n x r′ e ends d = over refl refl (rw (rw d at (rule ends-rule (rules .ends))))
 
 pub going-came : (s : Store) → Inv s → (t : ℕ) → (g : Going s t) → Came s t (g .number) (g .becomes) (g .effect)
 going-came s I t g =
@@ -298,7 +316,7 @@ pub last-unplaced : (s : Store) → Inv s → (t : ℕ) → takesLast s (s .thre
 last-unplaced s I t x =
     either-way (placed s (s .thread t))
     (λ y. clash (rw (y, x) at (at-both last-rule (movesNow s) (s .thread t .op) (s .thread t .line)
-    (everywhere (both last-rule) (rules .3) (s .thread t) (I .stands t)))) refl)
+    (everywhere (both last-rule) (rules .last) (s .thread t) (I .stands t)))) refl)
     (λ y. y)
 
 -- who has just begun has none
@@ -306,7 +324,7 @@ pub first-unplaced : (s : Store) (r : Thread) → Stands r → r .line ≡ 1 →
 first-unplaced s r st l =
     not-true (placed s r)
     (rw (eq-eqb (r .line) 1 l) at (at-both first-rule (movesNow s) (r .op) (r .line)
-    (everywhere (both first-rule) (rules .7) r st)))
+    (everywhere (both first-rule) (rules .first) r st)))
 
 -- ---- who has its place can step
 
@@ -320,7 +338,7 @@ module _ (s : Store) (I : Inv s) (t : ℕ) (has : placed s (s .thread t) ≡ tru
   placed-takes : (goes-on && takes-none) ≡ true
   placed-takes =
       rw has at (at-both take-rule (movesNow s) (s .thread t .op) (s .thread t .line)
-      (everywhere (both take-rule) (rules .6) (s .thread t) (I .stands t)))
+      (everywhere (both take-rule) (rules .take) (s .thread t) (I .stands t)))
 
   pub placed-takesH : takesH (s .thread t) ≡ false
   placed-takesH = not-true _ (and-left (not (takesH (s .thread t))) _ (and-right goes-on takes-none placed-takes))

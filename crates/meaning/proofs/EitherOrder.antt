@@ -207,7 +207,7 @@ module _ (s : Store) (I : Inv s) (t : ℕ) (r′ : Thread) (e : Effect) (M : Mov
 
 -- ---- two threads' effects change no common word
 
-pub upds-commute : {A : Type 0} (f : ℕ → A) (i j : ℕ) (v w : A) → (i ≡ j → ⊥) → upd (upd f i v) j w ≡ upd (upd f j w) i v
+upds-commute : {A : Type 0} (f : ℕ → A) (i j : ℕ) (v w : A) → (i ≡ j → ⊥) → upd (upd f i v) j w ≡ upd (upd f j w) i v
 upds-commute f i j v w apart =
     fun-ext (upd-each (λ k x. x ≡ upd (upd f j w) i v k) (upd f i v) j w
     (sym (upd-other (upd f j w) i j v apart ∙ upd-same f j w)) (λ k others. rw (ne-eqb j k others)))

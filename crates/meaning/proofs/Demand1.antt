@@ -101,7 +101,7 @@ module _ (s : Store) (I : Inv s) where
       go (inr w) = waits w
 
   -- whoever has a flag up is below T and open
-  up-busy : (flag : Thread → Bool) → flag idle ≡ false → (v : ℕ) → flag (s .thread v) ≡ true →
+  pub up-busy : (flag : Thread → Bool) → flag idle ≡ false → (v : ℕ) → flag (s .thread v) ≡ true →
       (v < s .threads) × (isIdle (s .thread v) ≡ false)
   up-busy flag down v x = (
     either-way (ltb v (s .threads)) (λ b. ltb-true v (s .threads) b) (λ b. rests (I .past v (ltb-false v (s .threads) b))),

@@ -78,7 +78,7 @@ entry-kept about t v apart (Put i w) f x k =
     upd-each (λ k y. heldBy v y ≡ heldBy v (f k)) f i w (passes-other t v (f i) w apart x) (λ k _. refl) k
 
 -- an entry whose guard its writer can't have stays as it was
-put-kept : (c : Entry) (f : ℕ → ℕ) (guard : ℕ → ℕ → Type 0) → Puts c guard → (k : ℕ) →
+pub put-kept : (c : Entry) (f : ℕ → ℕ) (guard : ℕ → ℕ → Type 0) → Puts c guard → (k : ℕ) →
     ((w : ℕ) → guard k w → ⊥) → put c f k ≡ f k
 put-kept Keep f guard g k lacks = refl
 put-kept (Put i w) f guard g k lacks = upd-other f i k w (λ e. lacks w (subst (λ (j : ℕ). guard j w) e g))

@@ -31,7 +31,7 @@ use Rattle.meaning.proofs.EveryLine.{idle-is}
 use Rattle.meaning.proofs.Demand1.{inv-fresh, inv-call, inv-run}
 use Rattle.meaning.proofs.ManagerView.{leaves, future, owes, due, owing}
 use Rattle.meaning.proofs.Called.{Called, stays, opens, goes, ends, call-cases, replied}
-use Rattle.meaning.proofs.Schedules.{placing-front, finishing-front}
+use Rattle.meaning.proofs.Schedules.{placing-append, finishing-append}
 use Rattle.meaning.proofs.ManagerLaws.{operation-reads, level-obeys, obeyAll-append, managed-passes}
 use Rattle.meaning.proofs.ManagerStep.{future-free, future-held, future-step, takes-kept, owing-others}
 
@@ -171,14 +171,14 @@ answers-run s I m M u (e ∷ w) =
     ap (λ l. ofManager now ++ l)
     (answers-run s′ (inv-call s I e) (obeyAll m (placing callStore (λ s. s) s e [])) (S .matches) u w) ∙
     sym (append-assoc (ofManager now) (ofManager later) (owing (run callStore s′ w) u)) ∙
-    ap (λ l. l ++ owing (run callStore s′ w) u) (sym (ofManager-append now later) ∙ ap ofManager (sym (finishing-front callStore (λ s. s) s u e later)))
+    ap (λ l. l ++ owing (run callStore s′ w) u) (sym (ofManager-append now later) ∙ ap ofManager (finishing-append callStore (λ s. s) s u e [] later))
 
 pub matches-run : (s : Store) → Inv s → (m : Manager) → Matches s m → (w : List Entry) →
     Matches (run callStore s w) (obeyAll m (order callStore (λ s. s) s w))
 matches-run s I m M [] = M
 matches-run s I m M (e ∷ w) =
     let S = serves s I m M (call-cases s I e) in
-    rw (placing-front callStore (λ s. s) s e (order callStore (λ s. s) (callStore s e .after) w), obeyAll-append)
+    rw (sym (placing-append callStore (λ s. s) s e [] (order callStore (λ s. s) (callStore s e .after) w)), obeyAll-append)
     (matches-run (callStore s e .after) (inv-call s I e) _ (S .matches) w)
 
 -- ---- demand 2

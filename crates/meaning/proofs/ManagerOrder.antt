@@ -22,7 +22,7 @@ use Rattle.meaning.proofs.EveryLine.{idle-is}
 use Rattle.meaning.proofs.Demand1.{inv-call}
 use Rattle.meaning.proofs.ManagerView.{places, unplaced, unplaced-of, pending}
 use Rattle.meaning.proofs.Called.{Called, stays, opens, goes, ends, call-cases, replied}
-use Rattle.meaning.proofs.Schedules.{placing-front, starting-front}
+use Rattle.meaning.proofs.Schedules.{placing-append, starting-append}
 use Rattle.meaning.proofs.ManagerAnswers.{takes-last}
 
 -- ---- definitions
@@ -162,7 +162,7 @@ requests-run s I u (e ∷ w) =
     let goes = placing callStore (λ s. s) s e [] in
     let later = begunBy callStore (λ s. s) s′ u w in
     let after = order callStore (λ s. s) s′ w in
-    ap (λ l. pending s u ++ requests u l) (starting-front callStore (λ s. s) s u e later) ∙
+    ap (λ l. pending s u ++ requests u l) (sym (starting-append callStore (λ s. s) s u e [] later)) ∙
     ap (λ l. pending s u ++ l) (requests-append u begins later) ∙
     sym (append-assoc (pending s u) (requests u begins) (requests u later)) ∙
     ap (λ l. l ++ requests u later) (placed s I (call-cases s I e) u) ∙
@@ -170,4 +170,4 @@ requests-run s I u (e ∷ w) =
     ap (λ l. requests u goes ++ l) (requests-run s′ (inv-call s I e) u w) ∙
     sym (append-assoc (requests u goes) (requests u after) (pending (run callStore s′ w) u)) ∙
     ap (λ l. l ++ pending (run callStore s′ w) u)
-    (sym (requests-append u goes after) ∙ ap (requests u) (sym (placing-front callStore (λ s. s) s e after)))
+    (sym (requests-append u goes after) ∙ ap (requests u) (placing-append callStore (λ s. s) s e [] after))

@@ -23,14 +23,14 @@ use Rattle.meaning.specs.Holding.{none, free, by, heldBy}
 use Rattle.meaning.specs.Programs.{actAt}
 use Rattle.meaning.specs.Step.{block, perform, verdict, become, put, apply}
 use Rattle.meaning.specs.Call.{Reply, step, callStore, isIdle}
-use Rattle.meaning.specs.Schedule.{Answered, run, finishedBy, steps, longest}
+use Rattle.meaning.specs.Schedule.{Answered, placed, run, finishedBy, steps, longest}
 use Rattle.meaning.proofs.Words.{same, either-way, by-held, held-is, none-held, upd-same, upd-other}
 use Rattle.meaning.proofs.Invariant.{holdsH, holdsLock, ownsHeaders, ownsBlock, takesH, takesLock, Passes, takes, gives, Changes, Puts, Guards, Inv}
 use Rattle.meaning.proofs.Keeping.{everywhere}
 use Rattle.meaning.proofs.EveryLine.{idle-is}
 use Rattle.meaning.proofs.Demand1.{inv-call, no-fault}
 use Rattle.meaning.proofs.EitherOrder.{choosing-alike, Going, left-by, going-reply, going-moves, goes-unblocked}
-use Rattle.meaning.proofs.Places.{went, over, Came, going-came, placed, placed-going, placed-kept}
+use Rattle.meaning.proofs.Places.{went, over, Came, going-came, placed-going, placed-kept}
 use Rattle.meaning.proofs.Settles.{cleared, stepped, stepped-is, answering, Settles, rest, more}
 
 -- ---- what is said

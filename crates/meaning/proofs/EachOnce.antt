@@ -19,44 +19,18 @@ use Rattle.meaning.specs.Store.{Store, idle, fresh}
 use Rattle.meaning.specs.Programs.{WRITE, LEVEL, lastLine, actAt, lastTake, unmovedTake}
 use Rattle.meaning.specs.Step.{nothing, apply}
 use Rattle.meaning.specs.Call.{Entry, begin, step, callStore, isIdle, begun, storedN, storedC}
-use Rattle.meaning.specs.Schedule.{Operation, Answered, operation, emit, takesLast, run, placing, starting, finishing, order, begunBy, finishedBy}
+use Rattle.meaning.specs.Schedule.{Operation, Answered, operation, emit, takesLast, placed, run, placing, starting, finishing, order, begunBy, finishedBy}
+use Rattle.meaning.specs.Demands.{ofThread, ops, answeredOps, pending, placedOp, EachOnce}
 use Rattle.meaning.proofs.Words.{same, either-way, and-left, and-right, or-way, within-true, upd-same, upd-other}
 use Rattle.meaning.proofs.Invariant.{Inv}
 use Rattle.meaning.proofs.Lines.{_▸_, from-at}
 use Rattle.meaning.proofs.EveryLine.{idle-is, open-line, begins}
 use Rattle.meaning.proofs.Demand1.{inv-fresh, inv-call}
 use Rattle.meaning.proofs.EitherOrder.{Going, left-by, can-going, going-reply, going-moves}
-use Rattle.meaning.proofs.Places.{Went, went, over, Came, going-came, first-unplaced, last-unplaced, placed, placed-kept}
+use Rattle.meaning.proofs.Places.{Went, went, over, Came, going-came, first-unplaced, last-unplaced, placed-kept}
 use Rattle.meaning.proofs.Settles.{stepped, stepped-is}
 use Rattle.meaning.proofs.LastLock.{work}
 use Rattle.meaning.proofs.Schedules.{step-stays, refused-number, emit-append, placing-append, starting-append, finishing-append}
-
--- ---- what is said
-
--- thread u's operations among others
-abbrev pub ofThread : ℕ → List Operation → List Operation
-ofThread u [] = []
-ofThread u (o ∷ l) = emit (eqb (o .thread) u) o (ofThread u l)
-
--- the operation that thread u has begun and that has no place yet
-abbrev pub unplaced : ℕ → Store → List Operation
-unplaced u s = emit (not (isIdle (s .thread u)) && not (placed s (s .thread u))) (work u (s .thread u)) []
-
--- of the operation that thread u has not finished and that has its place: which of the four it is
-abbrev pub placedOp : ℕ → Store → List ℕ
-placedOp u s = emit (placed s (s .thread u)) (s .thread u .op) []
-
--- which of the four each is
-abbrev pub ops : List Operation → List ℕ
-ops = map (λ o. o .op)
-
-abbrev pub answeredOps : List Answered → List ℕ
-answeredOps = map (λ x. x .op)
-
-pub record EachOnce (s : Store) (w : List Entry) (u : ℕ) : Type 0 where
-  pub begun-once : begunBy callStore (λ s. s) s u w ≡ ofThread u (order callStore (λ s. s) s w) ++ unplaced u (run callStore s w)
-  pub finished-once : ops (ofThread u (order callStore (λ s. s) s w)) ≡
-      answeredOps (finishedBy callStore (λ s. s) s u w) ++ placedOp u (run callStore s w)
 
 -- ---- a step that takes a last lock takes a lock
 
@@ -112,13 +86,13 @@ module _ {A : Type 0} (still : Store → List A) (f g : Store → Entry → List
 
 -- what a call adds to what u has begun (x), to its place in the order (y), and to what it has finished (z)
 record Sees (u : ℕ) (s s′ : Store) (x y : List Operation) (z : List Answered) : Type 0 where
-  begins : unplaced u s ++ x ≡ y ++ unplaced u s′
+  begins : pending u s ++ x ≡ y ++ pending u s′
   finishes : placedOp u s ++ ops y ≡ answeredOps z ++ placedOp u s′
 
 -- by u's record and whether it has its place
-unplaced-is : (u : ℕ) (s : Store) (r : Thread) (b : Bool) → s .thread u ≡ r → placed s r ≡ b →
-    unplaced u s ≡ emit (not (isIdle r) && not b) (work u r) []
-unplaced-is u s r b is place = rw (is, place)
+pending-is : (u : ℕ) (s : Store) (r : Thread) (b : Bool) → s .thread u ≡ r → placed s r ≡ b →
+    pending u s ≡ emit (not (isIdle r) && not b) (work u r) []
+pending-is u s r b is place = rw (is, place)
 
 placedOp-is : (u : ℕ) (s : Store) (r : Thread) (b : Bool) → s .thread u ≡ r → placed s r ≡ b → placedOp u s ≡ emit b (r .op) []
 placedOp-is u s r b is place = rw (is, place)
@@ -131,8 +105,8 @@ sees : (u : ℕ) (s s′ : Store) (r r′ : Thread) (b b′ : Bool) (x y : List 
 sees u s s′ r r′ b b′ x y z is place is′ place′ begin-law finish-law =
     record {
       begins =
-          ap (λ (l : List Operation). l ++ x) (unplaced-is u s r b is place) ∙ begin-law
-          ∙ ap (λ (l : List Operation). y ++ l) (sym (unplaced-is u s′ r′ b′ is′ place′));
+          ap (λ (l : List Operation). l ++ x) (pending-is u s r b is place) ∙ begin-law
+          ∙ ap (λ (l : List Operation). y ++ l) (sym (pending-is u s′ r′ b′ is′ place′));
       finishes =
           ap (λ (l : List ℕ). l ++ ops y) (placedOp-is u s r b is place) ∙ finish-law
           ∙ ap (λ (l : List ℕ). answeredOps z ++ l) (sym (placedOp-is u s′ r′ b′ is′ place′));
@@ -148,7 +122,7 @@ sees-same : (u : ℕ) (s s′ : Store) → s′ .thread u ≡ s .thread u → pl
     Sees u s s′ [] [] []
 sees-same u s s′ is place =
     record {
-      begins = append-nil (unplaced u s) ∙ sym (rw (is, place));
+      begins = append-nil (pending u s) ∙ sym (rw (is, place));
       finishes = append-nil (placedOp u s) ∙ sym (rw (is, place));
     }
 
@@ -286,9 +260,9 @@ module _ (u : ℕ) where
       ∙ ofThread-append u (placing callStore (λ s. s) s e []) rest
 
   begun-all : (w : List Entry) (s : Store) → Inv s →
-      unplaced u s ++ begunBy callStore (λ s. s) s u w ≡ its-order s w ++ unplaced u (run callStore s w)
+      pending u s ++ begunBy callStore (λ s. s) s u w ≡ its-order s w ++ pending u (run callStore s w)
   begun-all =
-      telescope (unplaced u) (λ s e. starting callStore (λ s. s) s u e []) (λ s e. ofThread u (placing callStore (λ s. s) s e []))
+      telescope (pending u) (λ s e. starting callStore (λ s. s) s u e []) (λ s e. ofThread u (placing callStore (λ s. s) s e []))
       (λ s w. begunBy callStore (λ s. s) s u w) its-order (λ s. refl)
       (λ s e w. sym (starting-append callStore (λ s. s) s u e [] (begunBy callStore (λ s. s) (callStore s e .after) u w)))
       (λ s. refl) order-more (λ s I e. call-sees s I u e .begins)
@@ -308,7 +282,7 @@ module _ (u : ℕ) where
       ∙ map-append (λ (x : Answered). x .op) (finishing callStore (λ s. s) s u e []) rest)
       (λ s I e. call-sees s I u e .finishes)
 
-pub each-once : (t n p d : ℕ) → inLimits t n p d ≡ true → (w : List Entry) (u : ℕ) → EachOnce (fresh t n p d) w u
+pub each-once : (t n p d : ℕ) → inLimits t n p d ≡ true → (w : List Entry) (u : ℕ) → EachOnce callStore (λ s. s) (fresh t n p d) w u
 each-once t n p d limits w u =
     record {
       begun-once = begun-all u w (fresh t n p d) (inv-fresh t n p d limits);

@@ -13,12 +13,12 @@ use Rattle.meaning.specs.Numbers.{WENT}
 use Rattle.meaning.specs.Store.{Store}
 use Rattle.meaning.specs.Step.{apply}
 use Rattle.meaning.specs.Call.{Reply, Entry, begin, step, callStore}
-use Rattle.meaning.specs.Schedule.{Operation, operation, Answered, emit, takesLast, run, finishedBy, steps, longest, whole}
+use Rattle.meaning.specs.Schedule.{Operation, operation, Answered, emit, takesLast, placed, run, finishedBy, steps, longest, whole}
 use Rattle.meaning.proofs.Words.{clash, upd-same}
 use Rattle.meaning.proofs.Invariant.{Inv}
 use Rattle.meaning.proofs.Keeping.{moves-inv}
 use Rattle.meaning.proofs.EitherOrder.{Going, left-by, going-moves}
-use Rattle.meaning.proofs.Places.{Went, went, over, Came, going-came, placed}
+use Rattle.meaning.proofs.Places.{Went, went, over, Came, going-came}
 use Rattle.meaning.proofs.Settles.{cleared, stepped, answering, Settles, settles-alike, Moved, moved-settles, Ready, ready-going, ready-moves, ready-still}
 use Rattle.meaning.proofs.Alone.{alone, lines-end, next-nobody, step-alone, ends-as, ends-with, going, placed-settles}
 use Rattle.meaning.proofs.Schedules.{emit-append, steps-split, run-append, finishedBy-append}

@@ -19,36 +19,19 @@ use Rattle.meaning.specs.Holding.{none, heldBy}
 use Rattle.meaning.specs.Programs.{WRITE, LEVEL}
 use Rattle.meaning.specs.Step.{nothing, apply}
 use Rattle.meaning.specs.Call.{Reply, Entry, begin, step, callStore, told, isIdle, begun}
-use Rattle.meaning.specs.Schedule.{Operation, Answered, emit, takesLast, run, placing, finishing, order, finishedBy, serial}
+use Rattle.meaning.specs.Schedule.{Operation, Answered, emit, takesLast, placed, run, placing, finishing, order, finishedBy, serial}
+use Rattle.meaning.specs.Demands.{Owed, none-owed, one-owed, OneAtATime, AnswersSoFar}
 use Rattle.meaning.proofs.Words.{same, either-way, clash, nobody-free, free-none, upd-same, upd-other}
 use Rattle.meaning.proofs.Invariant.{holdsH, ownsHeaders, holdsLock, ownsBlock, Inv}
 use Rattle.meaning.proofs.EveryLine.{idle-is}
 use Rattle.meaning.proofs.Demand1.{inv-fresh, inv-call, inv-run}
 use Rattle.meaning.proofs.EitherOrder.{Going, left-by, can-going, going-reply, going-moves}
-use Rattle.meaning.proofs.Places.{went, over, Came, going-came, last-unplaced, placed, placed-going, placed-kept}
+use Rattle.meaning.proofs.Places.{went, over, Came, going-came, last-unplaced, placed-going, placed-kept}
 use Rattle.meaning.proofs.Settles.{cleared, stepped, stepped-is, answering, Settles, rest, more, settles-alike, Moved, Ready, early-settles, begin-settles, late-settles}
 use Rattle.meaning.proofs.LastLock.{work, answers-of, last-settles}
 use Rattle.meaning.proofs.Schedules.{step-stays, refused-number, emit-append, placing-append, finishing-append, run-append, finishedBy-append, serial-append}
 
--- ---- what is said
-
--- the operations of the order of last locks, run whole one after the other
-abbrev pub one-by-one : Store → List Entry → List Entry
-one-by-one s w = serial (order callStore (λ s. s) s w)
-
-pub record OneAtATime (s : Store) (w : List Entry) : Type 0 where
-  pub leaves : run callStore s w ≡ run callStore s (one-by-one s w)
-  pub answers : (u : ℕ) → finishedBy callStore (λ s. s) s u w ≡ finishedBy callStore (λ s. s) s u (one-by-one s w)
-
--- what is owed to thread u: one answer, of its open operation, if that has its place in the order
-pub data Owed (s : Store) (u : ℕ) (l : List Answered) : Type 0 where
-  none-owed : placed s (s .thread u) ≡ false → l ≡ [] → Owed s u l
-  one-owed : placed s (s .thread u) ≡ true → (v : ℕ) → l ≡ record { op = s .thread u .op; value = v } ∷ [] → Owed s u l
-
-pub record AnswersSoFar (s : Store) (w : List Entry) (u : ℕ) : Type 0 where
-  pub rest-owed : List Answered
-  pub owed : Owed (run callStore s w) u rest-owed
-  pub answers : finishedBy callStore (λ s. s) s u (one-by-one s w) ≡ finishedBy callStore (λ s. s) s u w ++ rest-owed
+-- ---- at most one answer is owed
 
 pub owed-short : {s : Store} {u : ℕ} {l : List Answered} → Owed s u l → length l ≤ 1
 owed-short (none-owed _ e) = rw e (omega arith)
@@ -299,7 +282,7 @@ module _ (t n p d : ℕ) (limits : inLimits t n p d ≡ true) (w : List Entry) w
   grown : Inv (run callStore (fresh t n p d) w)
   grown = inv-run (fresh t n p d) (inv-fresh t n p d limits) w
 
-  pub answers-so-far : (u : ℕ) → AnswersSoFar (fresh t n p d) w u
+  pub answers-so-far : (u : ℕ) → AnswersSoFar callStore (λ s. s) (fresh t n p d) w u
   answers-so-far u =
       record {
         rest-owed = from-fresh .answers u;
@@ -307,7 +290,8 @@ module _ (t n p d : ℕ) (limits : inLimits t n p d ≡ true) (w : List Entry) w
         answers = from-fresh .related u;
       }
 
-  pub one-at-a-time : ((u : ℕ) → isIdle (run callStore (fresh t n p d) w .thread u) ≡ true) → OneAtATime (fresh t n p d) w
+  pub one-at-a-time : ((u : ℕ) → isIdle (run callStore (fresh t n p d) w .thread u) ≡ true) →
+      OneAtATime callStore (λ s. s) (fresh t n p d) w
   one-at-a-time rests =
       let ends = idle-settles (run callStore (fresh t n p d) w) grown rests (from-fresh .settles) in
       record {

@@ -8,7 +8,7 @@ use Rattle.meaning.specs.Store.{Store, fresh}
 use Rattle.meaning.specs.Programs.{WRITE, READ, UNMAP, LEVEL}
 use Rattle.meaning.specs.Call.{Entry, begin, step, callStore}
 use Rattle.meaning.specs.Schedule.{Operation, operation, run, order, finishedBy, steps, serial}
-use Rattle.meaning.proofs.OneAtATime.{one-by-one}
+use Rattle.meaning.specs.Demands.{one-by-one}
 
 -- the first so many entries of a table, in order
 abbrev entries : ℕ → (ℕ → ℕ) → List ℕ
@@ -56,7 +56,7 @@ threeLeft = (
 writersAndReader-leaves : outcome three writersAndReader ≡ threeLeft
 writersAndReader-leaves = refl
 
-writersAndReader-one-by-one : outcome three (one-by-one three writersAndReader) ≡ threeLeft
+writersAndReader-one-by-one : outcome three (one-by-one callStore (λ s. s) three writersAndReader) ≡ threeLeft
 writersAndReader-one-by-one = refl
 
 -- ---- a leveller moves a number while a writer writes another
@@ -88,5 +88,5 @@ twoLeft = (
 levellerAndWriter-leaves : outcome two levellerAndWriter ≡ twoLeft
 levellerAndWriter-leaves = refl
 
-levellerAndWriter-one-by-one : outcome two (one-by-one two levellerAndWriter) ≡ twoLeft
+levellerAndWriter-one-by-one : outcome two (one-by-one callStore (λ s. s) two levellerAndWriter) ≡ twoLeft
 levellerAndWriter-one-by-one = refl

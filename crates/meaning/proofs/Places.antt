@@ -21,9 +21,9 @@ use Rattle.meaning.specs.Programs.{WRITE, LEVEL, actAt, lastTake, unmove
 use Rattle.meaning.specs.Choosing.{toBlock, leastWorn, fromBlock, moves}
 use Rattle.meaning.specs.Step.{verdict, put, apply}
 use Rattle.meaning.specs.Call.{isIdle, storedN, storedC}
-use Rattle.meaning.specs.Schedule.{takesLast, operation}
+use Rattle.meaning.specs.Schedule.{takesLast, pastLast, mayMove, placed, operation}
 use Rattle.meaning.proofs.Words.{either-way, clash, and-left, and-right, or-way, free-held, held-once}
-use Rattle.meaning.proofs.Invariant.{_–_, never, row, h-heads-p, chosen-now, q-free, holdsH, ownsHeaders, takesH, takesN, Stands, GuardsHeader, GuardsWear, Inv}
+use Rattle.meaning.proofs.Invariant.{h-heads-p, chosen-now, q-free, holdsH, ownsHeaders, takesH, takesN, Stands, GuardsHeader, GuardsWear, Inv}
 use Rattle.meaning.proofs.Keeping.{standing, everyLine, everywhere, up, put-kept, Moves}
 use Rattle.meaning.proofs.Lines.{Fine}
 use Rattle.meaning.proofs.EveryLine.{fine}
@@ -38,22 +38,10 @@ use Rattle.meaning.proofs.Blocks.{Best, best-finds, finds, lacks}
 abbrev pub movesNow : Store → Bool
 movesNow s = moves (s .header) (s .wear) (s .blocks) (s .distance)
 
--- its last lock was a number's, or it has moved nothing
-abbrev pub pastLast : Thread → Bool
-pastLast = row (3 – 16) (2 – 6) (3 – 11) (7 – 18)
-
--- a levelling that has H and is still to branch: H was its last lock if nothing is moved
-abbrev pub mayMove : Thread → Bool
-mayMove = row never never never (2 – 5)
-
+-- `placed` and `takesLast`, by whether a levelling that chooses now moves a block
 abbrev placedWhere : Bool → Thread → Bool
 placedWhere m r = pastLast r || mayMove r && not m
 
--- "An open operation that has taken it has its place in the order"
-abbrev pub placed : Store → Thread → Bool
-placed s r = placedWhere (movesNow s) r
-
--- `takesLast`, by whether a levelling that chooses now moves a block
 abbrev lastWhere : Bool → Thread → Bool
 lastWhere m r = eqb (r .line) (lastTake (r .op)) || eqb (r .op) LEVEL && eqb (r .line) unmovedTake && not m
 

@@ -15,7 +15,7 @@ use Rattle.meaning.specs.Store.{Store}
 use Rattle.meaning.specs.Step.{verdict}
 use Rattle.meaning.specs.Call.{Reply, Entry, begin, step, callStore, reply, told, isIdle}
 use Rattle.meaning.proofs.Words.{either-way, clash}
-use Rattle.meaning.specs.Schedule.{Operation, Answered, emit, takesLast, operation, run, placing, starting, finishing, order, finishedBy, steps, longest, whole, serial}
+use Rattle.meaning.specs.Schedule.{Operation, Answered, emit, takesLast, run, placing, starting, finishing, order, finishedBy, steps, longest, whole, serial}
 
 pub emit-append : {A : Type 0} (b : Bool) (x : A) (l m : List A) → emit b x l ++ m ≡ emit b x (l ++ m)
 emit-append true x l m = refl
@@ -45,12 +45,12 @@ module _ {S : Type 0} (call : S → Entry → Reply S) (seen : S → Store) wher
   placing-append s (begin u op n c) l m = refl
   placing-append s (step u) l m =
       emit-append (eqb (call s (step u) .number) WENT && takesLast (seen s) (seen s .thread u))
-      (operation u (seen s .thread u .op) (seen s .thread u .n) (seen s .thread u .c)) l m
+      _ l m
 
   pub starting-append : (s : S) (t : ℕ) (e : Entry) (l m : List Operation) →
       starting call seen s t e l ++ m ≡ starting call seen s t e (l ++ m)
   starting-append s t (begin u op n c) l m =
-      emit-append (eqb (call s (begin u op n c) .number) WENT && eqb u t) (operation u op n c) l m
+      emit-append (eqb (call s (begin u op n c) .number) WENT && eqb u t) _ l m
   starting-append s t (step u) l m = refl
 
   pub finishing-append : (s : S) (t : ℕ) (e : Entry) (l m : List Answered) →
@@ -58,7 +58,7 @@ module _ {S : Type 0} (call : S → Entry → Reply S) (seen : S → Store) wher
   finishing-append s t (begin u op n c) l m = refl
   finishing-append s t (step u) l m =
       emit-append (eqb (call s (step u) .number) FINISHED && eqb u t)
-      (record { op = seen s .thread u .op; value = call s (step u) .value }) l m
+      _ l m
 
   pub order-append : (s : S) (v w : List Entry) → order call seen s (v ++ w) ≡ order call seen s v ++ order call seen (run call s v) w
   order-append s [] w = refl

@@ -18,7 +18,7 @@ use Rattle.meaning.specs.Limits.{within}
 use Rattle.meaning.specs.Programs.{WRITE, LEVEL}
 use Rattle.meaning.specs.Step.{nothing, verdict, apply}
 use Rattle.meaning.specs.Call.{Reply, step, callStore, isIdle, begun}
-use Rattle.meaning.specs.Schedule.{Answered, emit, takesLast, finishing}
+use Rattle.meaning.specs.Schedule.{Answered, emit, takesLast, placed, finishing}
 use Rattle.meaning.proofs.Words.{either-way, clash, upd-other, upd-each}
 use Rattle.meaning.proofs.Invariant.{takesH, Guards, Inv}
 use Rattle.meaning.proofs.Keeping.{Moves, moves-inv}
@@ -26,7 +26,7 @@ use Rattle.meaning.proofs.EveryLine.{idle-is, begins}
 use Rattle.meaning.proofs.Demand1.{inv-call}
 use Rattle.meaning.proofs.EitherOrder.{sameTake, sameTake-sym, Goes, Going, left-by, going-reply, going-moves, goes-unblocked, verdict-alike, applies-commute}
 use Rattle.meaning.proofs.Shapes.{Quiet}
-use Rattle.meaning.proofs.Places.{went, over, Came, going-came, first-unplaced, placed, placed-takesH, placed-takesN, placed-going, placed-kept, last-kept}
+use Rattle.meaning.proofs.Places.{went, over, Came, going-came, first-unplaced, placed-takesH, placed-takesN, placed-going, placed-kept, last-kept}
 
 -- ---- what is said
 

@@ -18,9 +18,6 @@ pub mod Schedules
 pub mod ManagerLaws
 pub mod ManagerStep
 pub mod ManagerAnswers
-pub mod ManagerOrder
-pub mod Linearizable
-pub mod ManagerSamples
 pub mod Shapes
 pub mod Places
 pub mod Settles
@@ -29,4 +26,7 @@ pub mod Replay
 pub mod LastLock
 pub mod OneAtATime
 pub mod EachOnce
+pub mod ManagerOrder
+pub mod Linearizable
+pub mod ManagerSamples
 pub mod OneAtATimeSamples

@@ -5,7 +5,7 @@
 -- sequential history S, and (L2) the order <H of operations in H is kept in S.
 -- Here H is a schedule w on a fresh store with what its calls answer: a begin that went is an invocation, a step that finished is a
 -- response. Its reads, writes and unmaps are the invocations; levellings, which the manager does not know, are left out. Then:
---  * the responses that are appended are `owing`: one at most for each thread, to an operation that has taken its last lock;
+--  * the responses that are appended are what is `Owed`: one at most for each thread, to an operation that has taken its last lock;
 --  * the invocations that complete(H′) leaves out are `pending`: one at most for each thread;
 --  * S is `order`: the operations in the order of their last locks, one after the other, each with the manager's answer (`managed`).
 --    It is legal since the manager, which starts empty, gives the answers;
@@ -24,7 +24,7 @@
 --
 -- Assumes nothing.
 use mathlib.Core.Path.{_≡_, refl, sym, ap, _∙_}
-use mathlib.Core.Bool.{Bool, true, false, not, _&&_}
+use mathlib.Core.Bool.{true, false, not, _&&_}
 use mathlib.Core.List.{List, [], _∷_, _++_}
 use Prim.Native.Nat.{ℕ, _<_, _≤_}
 use native.Mathlib.Omega.{arith}
@@ -39,28 +39,18 @@ use Rattle.meaning.specs.Programs.{WRITE, READ, UNMAP, LEVEL}
 use Rattle.meaning.specs.Call.{Entry, callStore}
 use Rattle.meaning.specs.Manager.{Manager, empty, initial, ebmRead}
 use Rattle.meaning.specs.Schedule.{Operation, Answered, run, order, begunBy, finishedBy, obey, obeyAll, managed, ofManager}
+use Rattle.meaning.specs.Demands.{ofThread, pending, requests, place, Without, writes, changes, Linearizes}
 use Rattle.meaning.proofs.Words.{same, either-way, clash, naming-once, naming-named}
 use Rattle.meaning.proofs.Invariant.{Inv}
 use Rattle.meaning.proofs.Demand1.{inv-fresh, inv-run}
-use Rattle.meaning.proofs.ManagerView.{owing, pending}
+use Rattle.meaning.proofs.ManagerView.{owing}
 use Rattle.meaning.proofs.Schedules.{order-append}
 use Rattle.meaning.proofs.ManagerLaws.{obey-reads, obeyAll-append}
-use Rattle.meaning.proofs.ManagerAnswers.{manager-answers}
-use Rattle.meaning.proofs.ManagerOrder.{requests, place, managed-length, place-first, place-second, requests-run}
+use Rattle.meaning.proofs.ManagerAnswers.{manager-owing, manager-answers}
+use Rattle.meaning.proofs.ManagerOrder.{requests-append, requests-ofThread, managed-length, place-first, place-second}
+use Rattle.meaning.proofs.EachOnce.{each-once}
 
 -- ---- what the manager reads
-
--- no operation of the list passes the test
-abbrev pub Without : (Operation → Bool) → List Operation → Type 0
-Without test [] = Unit {0}
-Without test (o ∷ l) = (test o ≡ false) × Without test l
-
-abbrev pub writes : ℕ → Operation → Bool
-writes k o = eqb (o .op) WRITE && eqb (o .number) k
-
--- a write or an unmap of k: neither a levelling nor a read
-abbrev pub changes : ℕ → Operation → Bool
-changes k o = not (eqb (o .op) LEVEL) && (not (eqb (o .op) READ) && eqb (o .number) k)
 
 pub reads-unchanged : (k : ℕ) (l : List Operation) (m : Manager) → Without (changes k) l → ebmRead k (obeyAll m l) ≡ ebmRead k m
 reads-unchanged k [] m w = refl
@@ -113,24 +103,13 @@ read-answered m u l o l′ op thread = managed-append m u l (o ∷ l′) ∙ rw 
 
 -- ---- linearizability
 
--- what a schedule w on store s orders is a linearization of it
-pub record Linearizes (s : Store) (w : List Entry) : Type 0 where
-  -- L1: each thread's invocations, but for one that pends, are its operations in the order
-  pub asks : (u : ℕ) → requests u (begunBy callStore (λ s. s) s u w) ≡
-      requests u (order callStore (λ s. s) s w) ++ pending (run callStore s w) u
-  -- L1: the manager's answers to them are its responses, and one more at most, that is owed
-  pub answers : (u : ℕ) → managed initial u (order callStore (λ s. s) s w) ≡
-      ofManager (finishedBy callStore (λ s. s) s u w) ++ owing (run callStore s w) u
-  -- L2: what has finished in the first part v of the schedule stands before what has not begun there
-  pub real-time : (v v′ : List Entry) → v ++ v′ ≡ w → (u i u′ i′ : ℕ) →
-      i < length (ofManager (finishedBy callStore (λ s. s) s u v)) →
-      length (requests u′ (begunBy callStore (λ s. s) s u′ v)) ≤ i′ →
-      place u (order callStore (λ s. s) s w) i < place u′ (order callStore (λ s. s) s w) i′
-
 module _ (t n p d : ℕ) (limits : inLimits t n p d ≡ true) where
   asked : (w : List Entry) (u : ℕ) → requests u (begunBy callStore (λ s. s) (fresh t n p d) u w) ≡
-      requests u (order callStore (λ s. s) (fresh t n p d) w) ++ pending (run callStore (fresh t n p d) w) u
-  asked w u = requests-run (fresh t n p d) (inv-fresh t n p d limits) u w
+      requests u (order callStore (λ s. s) (fresh t n p d) w) ++ requests u (pending u (run callStore (fresh t n p d) w))
+  asked w u =
+      let l = order callStore (λ s. s) (fresh t n p d) w in
+      ap (requests u) (each-once t n p d limits w u .begun-once) ∙ requests-append u (ofThread u l) (pending u (run callStore (fresh t n p d) w))
+      ∙ ap (λ r. r ++ requests u (pending u (run callStore (fresh t n p d) w))) (requests-ofThread u l)
 
   -- what a thread has finished has its place, and what has its place is begun
   pub finished-placed : (w : List Entry) (u : ℕ) → length (ofManager (finishedBy callStore (λ s. s) (fresh t n p d) u w)) ≤
@@ -138,7 +117,7 @@ module _ (t n p d : ℕ) (limits : inLimits t n p d ≡ true) where
   finished-placed w u =
       let s = fresh t n p d in
       let fin = ofManager (finishedBy callStore (λ s. s) s u w) in
-      let x = ap length (manager-answers t n p d limits w u) ∙ length-append fin (owing (run callStore s w) u) in
+      let x = ap length (manager-owing t n p d limits w u) ∙ length-append fin (owing (run callStore s w) u) in
       let y = managed-length initial u (order callStore (λ s. s) s w) in
       omega arith
 
@@ -146,7 +125,7 @@ module _ (t n p d : ℕ) (limits : inLimits t n p d ≡ true) where
       length (requests u (begunBy callStore (λ s. s) (fresh t n p d) u w))
   placed-begun w u =
       let s = fresh t n p d in
-      let x = ap length (asked w u) ∙ length-append (requests u (order callStore (λ s. s) s w)) (pending (run callStore s w) u) in
+      let x = ap length (asked w u) ∙ length-append (requests u (order callStore (λ s. s) s w)) (requests u (pending u (run callStore s w))) in
       omega arith
 
   -- the order of a schedule in two parts is in two parts
@@ -169,7 +148,7 @@ module _ (t n p d : ℕ) (limits : inLimits t n p d ≡ true) where
       let y = place-second u′ l l′ i′ (omega arith) in
       rw (real-time-parts v v′) (omega arith)
 
-  pub linearizable : (w : List Entry) → Linearizes (fresh t n p d) w
+  pub linearizable : (w : List Entry) → Linearizes callStore (λ s. s) (fresh t n p d) w
   linearizable w =
       record {
         asks = asked w;
@@ -191,7 +170,7 @@ read-finished t n p d limits w u l o l′ is op thread finished none =
     let fin = ofManager (finishedBy callStore (λ s. s) s u w) in
     let i = length (requests u l) in
     sym (List·getD-append fin (owing (run callStore s w) u) none i finished) ∙
-    ap (λ x. getD x i none) (sym (manager-answers t n p d limits w u) ∙ ap (managed initial u) is ∙ read-answered initial u l o l′ op thread) ∙
+    ap (λ x. getD x i none) (sym (manager-owing t n p d limits w u) ∙ ap (managed initial u) is ∙ read-answered initial u l o l′ op thread) ∙
     getD-at (managed initial u l) _ (managed (obeyAll initial l) u l′) none i (managed-length initial u l)
 
 -- ---- blocks

@@ -18,10 +18,10 @@ use Rattle.meaning.specs.Store.{Store, idle}
 use Rattle.meaning.specs.Holding.{none, free, by, heldBy, naming, named}
 use Rattle.meaning.specs.Programs.{actAt}
 use Rattle.meaning.specs.Step.{perform, apply}
-use Rattle.meaning.specs.Schedule.{operation, emit, ofManager}
+use Rattle.meaning.specs.Schedule.{emit, ofManager}
 use Rattle.meaning.proofs.Words.{same, either-way, clash, by-held, none-held, naming-once, naming-not-none, naming-not-free, naming-named, named-naming, named-below, upd-each}
 use Rattle.meaning.proofs.Invariant.{takes, gives, holdsH, holdsN, ownsP, ownsQ, kept, Holds, Facts, Agrees, Back, Inv}
-use Rattle.meaning.proofs.ManagerView.{places, answered, due, unplaced-of}
+use Rattle.meaning.proofs.ManagerView.{places, answered, due}
 use Rattle.meaning.proofs.Keeping.{p-owned, q-owned, Moves}
 
 infixr 30 _▸_
@@ -32,18 +32,15 @@ pub data Waits (s : Store) (r : Thread) : Type 0 where
   for-H : holdsH r ≡ false → holdsN r ≡ false → free (s .lock) ≡ false → Waits s r
   for-N : holdsN r ≡ false → free (s .locks (r .n)) ≡ false → Waits s r
 
--- a line that is not the last: the answer to its operation, if it is the manager's, is owed from the last lock on, and until then its
--- place pends
+-- a line that is not the last: the answer to its operation, if it is the manager's, is owed from the last lock on
 pub record Goes (s : Store) (t : ℕ) (r r′ : Thread) (e : Effect) : Type 0 where
   pub moves : Moves s t r r′ e
   pub owed : due (apply s t r′ e) r′ ≡ emit (places r) (answered r (kept s (r .n))) (due s r)
-  pub pends : unplaced-of t r ≡ emit (places r) (operation t (r .op) (r .n) (r .c)) (unplaced-of t r′)
 
 -- the last line: the thread is idle next, and what it answers was owed
 pub record Ends (s : Store) (t : ℕ) (r : Thread) (value : ℕ) (e : Effect) : Type 0 where
   pub moves : Moves s t r idle e
   pub owed : due s r ≡ ofManager (record { op = r .op; value = value } ∷ [])
-  pub pends : unplaced-of t r ≡ []
 
 -- what a verdict must show of a step of thread t with record r: a fault can't
 abbrev pub Fine : Store → ℕ → Thread → Verdict → Type 0

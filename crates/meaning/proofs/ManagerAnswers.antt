@@ -5,8 +5,7 @@
 use mathlib.Core.Path.{_≡_, refl, sym, ap, _∙_, subst}
 use mathlib.Core.Bool.{Bool, true, false, not, cond, _&&_, _||_, or-false}
 use mathlib.Core.List.{List, [], _∷_, _++_, append-assoc, append-nil}
-use Prim.Native.Nat.{ℕ, _≤_}
-use native.Mathlib.Omega.{arith}
+use Prim.Native.Nat.{ℕ}
 use lib.Dec.{eqb}
 use lib.ListN.{length, take}
 use lib.Seq.{take-at}
@@ -21,15 +20,16 @@ use Rattle.meaning.specs.Programs.{WRITE, READ, LEVEL, lastTake}
 use Rattle.meaning.specs.Step.{nothing, apply}
 use Rattle.meaning.specs.Call.{Entry, begin, step, callStore, isIdle, begun}
 use Rattle.meaning.specs.Manager.{Manager, initial, ebmRead}
-use Rattle.meaning.specs.Schedule.{Operation, operation, Answered, emit, takesLast, run, placing, finishing, order, finishedBy, obeyAll, managed, ofManager}
-use Rattle.meaning.proofs.Words.{same, either-way, clash, two-ways, free-held, held-by, upd-same}
+use Rattle.meaning.specs.Schedule.{Operation, operation, Answered, emit, takesLast, pastLast, placed, run, placing, finishing, order, finishedBy, obeyAll, managed, ofManager}
+use Rattle.meaning.specs.Demands.{Owed, none-owed, one-owed, ManagerAnswers}
+use Rattle.meaning.proofs.Words.{same, either-way, clash, or-way, two-ways, free-held, held-by, upd-same}
 use Rattle.meaning.proofs.Invariant.{takesN, kept, Stands, Inv}
 use Rattle.meaning.proofs.Keeping.{Moves, up}
 use Rattle.meaning.proofs.Sharing.{fact}
 use Rattle.meaning.proofs.Lines.{Goes}
 use Rattle.meaning.proofs.EveryLine.{idle-is}
 use Rattle.meaning.proofs.Demand1.{inv-fresh, inv-call, inv-run}
-use Rattle.meaning.proofs.ManagerView.{leaves, future, owes, due, owing}
+use Rattle.meaning.proofs.ManagerView.{leaves, future, owes, answered, due, owing}
 use Rattle.meaning.proofs.Called.{Called, stays, opens, goes, ends, call-cases, replied}
 use Rattle.meaning.proofs.Schedules.{placing-append, finishing-append}
 use Rattle.meaning.proofs.ManagerLaws.{operation-reads, level-obeys, obeyAll-append, managed-passes}
@@ -200,22 +200,53 @@ future-alone s k alone =
     let writes : eqb (r .op) WRITE ≡ false = rw (eqb-true (r .op) READ reads) in
     rw (x, writes, reads)))
 
--- at most one answer is owed to a thread
-pub owing-short : (s : Store) (u : ℕ) → length (owing s u) ≤ 1
-owing-short s u = either-way (owes (s .thread u)) (λ x. rw x (omega arith)) (λ x. rw x (omega arith))
+-- what is owed to a thread with its place is owed by the manager, but for a levelling's answer
+owing-owed : (s : Store) → Inv s → (u : ℕ) → (l : List Answered) × Owed s u l × (owing s u ≡ ofManager l)
+owing-owed s I u =
+    let r = s .thread u in
+    let late : owes r ≡ true → placed s r ≡ true = λ x. rw (up owes pastLast refl r (I .stands u) x) in
+    either-way (owes r)
+    (λ x. (
+      answered r (kept s (r .n)) ∷ [],
+      one-owed (late x) _ refl,
+      rw (x, up owes (λ r. not (eqb (r .op) LEVEL)) refl r (I .stands u) x),
+    ))
+    (λ x. either-way (placed s r)
+    (λ y. (
+      record { op = r .op; value = 0 } ∷ [],
+      one-owed y 0 refl,
+      rw (x, two-ways (eqb (r .op) LEVEL) true (λ _. refl) (λ _. level x y)),
+    ))
+    (λ y. ([], none-owed y refl, rw x)))
+  where
+    level : owes (s .thread u) ≡ false → placed s (s .thread u) ≡ true → eqb (s .thread u .op) LEVEL ≡ true
+    level x y =
+        either-way (eqb (s .thread u .op) LEVEL) (λ z. z)
+        (λ z. clash (up (λ r. not (eqb (r .op) LEVEL) && pastLast r) owes refl (s .thread u) (I .stands u)
+        (rw z (or-way (pastLast (s .thread u)) _ y (λ p. p) (λ p. clash p (rw z))))) x)
 
 module _ (t n p d : ℕ) (limits : inLimits t n p d ≡ true) (w : List Entry) where
-  pub manager-answers : (u : ℕ) →
+  pub manager-owing : (u : ℕ) →
       managed initial u (order callStore (λ s. s) (fresh t n p d) w) ≡
       ofManager (finishedBy callStore (λ s. s) (fresh t n p d) u w) ++ owing (run callStore (fresh t n p d) w) u
-  manager-answers u = answers-run (fresh t n p d) (inv-fresh t n p d limits) initial (λ k. refl) u w
+  manager-owing u = answers-run (fresh t n p d) (inv-fresh t n p d limits) initial (λ k. refl) u w
 
-  -- so its finished answers are the first so many of the manager's, all but one at most (`owing-short`)
+  pub manager-answers : (u : ℕ) → ManagerAnswers callStore (λ s. s) (fresh t n p d) w u
+  manager-answers u =
+      let fin = finishedBy callStore (λ s. s) (fresh t n p d) u w in
+      let o = owing-owed (run callStore (fresh t n p d) w) (inv-run (fresh t n p d) (inv-fresh t n p d limits) w) u in
+      record {
+        rest-owed = o .0;
+        owed = o .1;
+        answers = manager-owing u ∙ ap (λ l. ofManager fin ++ l) (o .2) ∙ sym (ofManager-append fin (o .0));
+      }
+
+  -- so its finished answers are the first so many of the manager's, all but one at most
   pub finished-first : (u : ℕ) →
       ofManager (finishedBy callStore (λ s. s) (fresh t n p d) u w) ≡
       take (length (ofManager (finishedBy callStore (λ s. s) (fresh t n p d) u w)))
       (managed initial u (order callStore (λ s. s) (fresh t n p d) w))
-  finished-first u = rw (manager-answers u) (sym (take-at _ _ _ refl))
+  finished-first u = rw (manager-owing u) (sym (take-at _ _ _ refl))
 
   pub manager-holds : (k : ℕ) →
       ebmRead k (obeyAll initial (order callStore (λ s. s) (fresh t n p d) w)) ≡ future (run callStore (fresh t n p d) w) k

@@ -12,7 +12,7 @@ use Rattle.meaning.specs.Store.{Store}
 use Rattle.meaning.specs.Holding.{free, named}
 use Rattle.meaning.specs.Programs.{WRITE, READ, LEVEL}
 use Rattle.meaning.specs.Manager.{empty}
-use Rattle.meaning.specs.Schedule.{Operation, operation, Answered, emit}
+use Rattle.meaning.specs.Schedule.{Answered, emit}
 use Rattle.meaning.proofs.Invariant.{_–_, never, row, holdsN, takesN, kept}
 
 -- what an operation with word c leaves of its number's content x
@@ -29,11 +29,9 @@ future s k =
     cond (free (s .locks k)) (kept s k)
     (leaves (s .thread (named (s .locks k)) .op) (s .thread (named (s .locks k)) .c) (kept s k))
 
--- ---- an operation of the manager's, before its last lock and after it: write, read, unmap, and no levelling
+-- ---- an operation of the manager's: write, read, unmap, and no levelling
 
-abbrev pub unplaced : Thread → Bool
-unplaced = row (1 – 2) (1 – 1) (1 – 2) never
-
+-- it has its last lock
 abbrev pub owes : Thread → Bool
 owes = row (3 – 16) (2 – 6) (3 – 11) never
 
@@ -51,10 +49,3 @@ due s r = emit (owes r) (answered r (kept s (r .n))) []
 
 abbrev pub owing : Store → ℕ → List Answered
 owing s u = due s (s .thread u)
-
--- the operation of record r, and of thread u, that has no place in the order yet
-abbrev pub unplaced-of : ℕ → Thread → List Operation
-unplaced-of u r = emit (unplaced r) (operation u (r .op) (r .n) (r .c)) []
-
-abbrev pub pending : Store → ℕ → List Operation
-pending s u = unplaced-of u (s .thread u)

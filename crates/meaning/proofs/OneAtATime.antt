@@ -19,7 +19,7 @@ use Rattle.meaning.specs.Holding.{none, heldBy}
 use Rattle.meaning.specs.Programs.{WRITE, LEVEL}
 use Rattle.meaning.specs.Step.{nothing, apply}
 use Rattle.meaning.specs.Call.{Reply, Entry, begin, step, callStore, told, isIdle, begun}
-use Rattle.meaning.specs.Schedule.{Operation, Answered, emit, takesLast, placed, run, placing, finishing, order, finishedBy, serial}
+use Rattle.meaning.specs.Schedule.{Operation, Answered, emit, takesLast, placed, run, placing, finishing, order, serial}
 use Rattle.meaning.specs.Demands.{Owed, none-owed, one-owed, OneAtATime, AnswersSoFar}
 use Rattle.meaning.proofs.Words.{same, either-way, clash, nobody-free, free-none, upd-same, upd-other}
 use Rattle.meaning.proofs.Invariant.{holdsH, ownsHeaders, holdsLock, ownsBlock, Inv}

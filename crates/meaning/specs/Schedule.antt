@@ -1,9 +1,9 @@
 -- Schedules, what they leave and answer, and the order of last locks: 01, "The machine" and the end of "The lines".
 -- All of it is over any kind of store S with a call that replies and a way to see the store in it: stores themselves, and areas of bytes.
 use mathlib.Core.Bool.{Bool, true, false, not, cond, _&&_, _||_}
-use mathlib.Core.List.{List, [], _∷_, _++_, map}
+use mathlib.Core.List.{List, [], _∷_}
 use Prim.Native.Nat.{ℕ, zero, suc, _≤_}
-use lib.Dec.{eqb, ltb, leb}
+use lib.Dec.{eqb, ltb}
 use Rattle.meaning.specs.declared.Thread.{Thread}
 use Rattle.meaning.specs.Numbers.{WENT, FINISHED}
 use Rattle.meaning.specs.Limits.{mostWord}

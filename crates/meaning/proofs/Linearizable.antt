@@ -16,22 +16,23 @@
 --    A place past the end of S is that of an operation that is not in S.
 --
 -- WHAT A READ GIVES. A read of number k that stands in S after operations l finishes with what the manager reads at k after l
--- (`read-finished`; `read-answered` says it of the manager alone). That is the word of the last write of k in l
--- (`read-gives-last-write`), and empty, 0, if an unmap of k came after it (`read-gives-empty`) or if no write of k is in l
--- (`read-gives-empty-first`).
+-- (`read-finished`; `read-answered` says it of the manager alone). That is the word of the last write of k in l, and empty, 0, if an
+-- unmap of k came after it or if no write of k is in l (`reads-give`; `read-gives-last-write`, `read-gives-empty` and
+-- `read-gives-empty-first` say it case by case).
 --
 -- TWO NUMBERS NEVER SHARE A BLOCK: `one-block-each`, at every moment, whatever is under way.
 --
 -- Assumes nothing.
-use mathlib.Core.Path.{_≡_, refl, sym, ap, _∙_}
-use mathlib.Core.Bool.{true, false, not, _&&_}
+use mathlib.Core.Path.{_≡_, refl, sym, ap, _∙_, subst}
+use mathlib.Core.Bool.{true, false, not, cond, _&&_}
 use mathlib.Core.List.{List, [], _∷_, _++_}
+use mathlib.Core.Logic.{_⊎_, inl, inr}
 use Prim.Native.Nat.{ℕ, _<_, _≤_}
 use native.Mathlib.Omega.{arith}
 use lib.Dec.{eqb}
 use lib.ListN.{length, getD, length-append, List·getD-append}
 use lib.Seq.{getD-at}
-use borrow.Author.Tests.{eqb-true}
+use borrow.Author.Tests.{eqb-true, not-true}
 use Rattle.meaning.specs.Limits.{inLimits}
 use Rattle.meaning.specs.Store.{Store, fresh}
 use Rattle.meaning.specs.Holding.{free, named}
@@ -39,8 +40,8 @@ use Rattle.meaning.specs.Programs.{WRITE, READ, UNMAP, LEVEL}
 use Rattle.meaning.specs.Call.{Entry, callStore}
 use Rattle.meaning.specs.Manager.{Manager, empty, initial, ebmRead}
 use Rattle.meaning.specs.Schedule.{Operation, Answered, run, order, begunBy, finishedBy, obey, obeyAll, managed, ofManager}
-use Rattle.meaning.specs.Demands.{ofThread, pending, requests, place, Without, writes, changes, Linearizes}
-use Rattle.meaning.proofs.Words.{same, either-way, clash, naming-once, naming-named}
+use Rattle.meaning.specs.Demands.{ofThread, pending, requests, place, Without, writes, changes, Gives, last-write, last-unmap, untouched, Linearizes}
+use Rattle.meaning.proofs.Words.{same, either-way, clash, and-left, and-right, naming-once, naming-named}
 use Rattle.meaning.proofs.Invariant.{Inv}
 use Rattle.meaning.proofs.Demand1.{inv-fresh, inv-run}
 use Rattle.meaning.proofs.ManagerView.{owing}
@@ -88,6 +89,60 @@ read-gives-empty k m l o l′ op number rest =
 -- and before the first write
 pub read-gives-empty-first : (k : ℕ) (l : List Operation) → Without (writes k) l → ebmRead k (obeyAll initial l) ≡ empty
 read-gives-empty-first k l rest = reads-empty k l initial refl rest
+
+-- there is always one of the three: the last operation that changes k, if any, is a write or not
+record LastChange (k : ℕ) (l : List Operation) : Type 0 where
+  before : List Operation
+  last : Operation
+  since : List Operation
+  whole : l ≡ before ++ (last ∷ since)
+  is : changes k last ≡ true
+  rest : Without (changes k) since
+
+last-change : (k : ℕ) (l : List Operation) → Without (changes k) l ⊎ LastChange k l
+last-change k [] = inl tt
+last-change k (o ∷ l) = go (last-change k l)
+  where
+    go : Without (changes k) l ⊎ LastChange k l → Without (changes k) (o ∷ l) ⊎ LastChange k (o ∷ l)
+    go (inl w) =
+        either-way (changes k o)
+        (λ x. inr (record { before = []; last = o; since = l; whole = refl; is = x; rest = w })) (λ x. inl (x, w))
+    go (inr c) =
+        inr (record {
+          before = o ∷ c .before;
+          last = c .last;
+          since = c .since;
+          whole = ap (λ r. o ∷ r) (c .whole);
+          is = c .is;
+          rest = c .rest;
+        })
+
+-- what an operation that changes k leaves of it
+change-leaves : (k : ℕ) (o : Operation) (m : Manager) → changes k o ≡ true →
+    ebmRead k (obey o m) ≡ cond (eqb (o .op) WRITE) (o .word) empty
+change-leaves k o m x =
+    let y = not-true (eqb (o .op) LEVEL) (and-left (not (eqb (o .op) LEVEL)) _ x) in
+    let z = and-right (not (eqb (o .op) LEVEL)) _ x in
+    let r = not-true (eqb (o .op) READ) (and-left (not (eqb (o .op) READ)) _ z) in
+    let n = and-right (not (eqb (o .op) READ)) (eqb (o .number) k) z in
+    obey-reads o m k ∙ rw (n, y, r)
+
+pub reads-give : (k : ℕ) (l : List Operation) → Gives k l (ebmRead k (obeyAll initial l))
+reads-give k l = go (last-change k l)
+  where
+    go : Without (changes k) l ⊎ LastChange k l → Gives k l (ebmRead k (obeyAll initial l))
+    go (inl w) = subst (Gives k l) (sym (reads-unchanged k l initial w)) (untouched w)
+    go (inr c) =
+        let o = c .last in
+        let m = obeyAll initial (c .before) in
+        let e : ebmRead k (obeyAll initial l) ≡ cond (eqb (o .op) WRITE) (o .word) empty =
+        ap (λ x. ebmRead k (obeyAll initial x)) (c .whole) ∙ ap (ebmRead k) (obeyAll-append initial (c .before) (o ∷ c .since))
+        ∙ reads-unchanged k (c .since) (obey o m) (c .rest) ∙ change-leaves k o m (c .is) in
+        let n : eqb (o .number) k ≡ true =
+        and-right (not (eqb (o .op) READ)) (eqb (o .number) k) (and-right (not (eqb (o .op) LEVEL)) _ (c .is)) in
+        subst (Gives k l) (sym e)
+        (either-way (eqb (o .op) WRITE) (λ x. rw x (last-write (c .before) o (c .since) (c .whole) (rw (x, n)) (c .rest)))
+        (λ x. rw x (last-unmap (c .before) o (c .since) (c .whole) (c .is) (rw x) (c .rest))))
 
 -- what the manager answers to a read is what it reads there
 managed-append : (m : Manager) (u : ℕ) (l l′ : List Operation) → managed m u (l ++ l′) ≡ managed m u l ++ managed (obeyAll m l) u l′

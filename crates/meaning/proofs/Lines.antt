@@ -19,8 +19,9 @@ use Rattle.meaning.specs.Holding.{none, free, by, heldBy, naming, named}
 use Rattle.meaning.specs.Programs.{actAt}
 use Rattle.meaning.specs.Step.{perform, apply}
 use Rattle.meaning.specs.Schedule.{emit, ofManager}
+use Rattle.meaning.specs.Demands.{kept}
 use Rattle.meaning.proofs.Words.{same, either-way, clash, by-held, none-held, naming-once, naming-not-none, naming-not-free, naming-named, named-naming, named-below, upd-each}
-use Rattle.meaning.proofs.Invariant.{takes, gives, holdsH, holdsN, ownsP, ownsQ, kept, Holds, Facts, Agrees, Back, Inv}
+use Rattle.meaning.proofs.Invariant.{takes, gives, holdsH, holdsN, ownsP, ownsQ, Holds, Facts, Agrees, Back, Inv}
 use Rattle.meaning.proofs.ManagerView.{places, answered, due}
 use Rattle.meaning.proofs.Keeping.{p-owned, q-owned, Moves}
 

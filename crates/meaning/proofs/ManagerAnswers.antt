@@ -3,7 +3,7 @@
 -- what is owed is answered later, by the step that finishes.
 -- Assumes nothing.
 use mathlib.Core.Path.{_≡_, refl, sym, ap, _∙_, subst}
-use mathlib.Core.Bool.{Bool, true, false, not, cond, _&&_, _||_, or-false}
+use mathlib.Core.Bool.{Bool, true, false, not, cond, _&&_, or-false}
 use mathlib.Core.List.{List, [], _∷_, _++_, append-assoc, append-nil}
 use Prim.Native.Nat.{ℕ}
 use lib.Dec.{eqb}
@@ -21,9 +21,9 @@ use Rattle.meaning.specs.Step.{nothing, apply}
 use Rattle.meaning.specs.Call.{Entry, begin, step, callStore, isIdle, begun}
 use Rattle.meaning.specs.Manager.{Manager, initial, ebmRead}
 use Rattle.meaning.specs.Schedule.{Operation, operation, Answered, emit, takesLast, pastLast, placed, run, placing, finishing, order, finishedBy, obeyAll, managed, ofManager}
-use Rattle.meaning.specs.Demands.{Owed, none-owed, one-owed, ManagerAnswers}
+use Rattle.meaning.specs.Demands.{kept, leavesAlone, Owed, none-owed, one-owed, ManagerAnswers}
 use Rattle.meaning.proofs.Words.{same, either-way, clash, or-way, two-ways, free-held, held-by, upd-same}
-use Rattle.meaning.proofs.Invariant.{takesN, kept, Stands, Inv}
+use Rattle.meaning.proofs.Invariant.{takesN, Stands, Inv}
 use Rattle.meaning.proofs.Keeping.{Moves, up}
 use Rattle.meaning.proofs.Sharing.{fact}
 use Rattle.meaning.proofs.Lines.{Goes}
@@ -182,10 +182,6 @@ matches-run s I m M (e ∷ w) =
     (matches-run (callStore s e .after) (inv-call s I e) _ (S .matches) w)
 
 -- ---- demand 2
-
--- a reader or a leveller
-abbrev pub leavesAlone : Thread → Bool
-leavesAlone r = eqb (r .op) LEVEL || eqb (r .op) READ
 
 future-alone : (s : Store) (k : ℕ) → ((v : ℕ) → heldBy v (s .locks k) ≡ true → leavesAlone (s .thread v) ≡ true) → future s k ≡ kept s k
 future-alone s k alone =

@@ -13,8 +13,9 @@ use Rattle.meaning.specs.Store.{Store}
 use Rattle.meaning.specs.Holding.{free, heldBy, named}
 use Rattle.meaning.specs.Programs.{READ}
 use Rattle.meaning.specs.Step.{apply}
+use Rattle.meaning.specs.Demands.{kept}
 use Rattle.meaning.proofs.Words.{same, either-way, clash, held-is, held-not-free, held-once, held-by, held-same, turned-free, upd-same, upd-other}
-use Rattle.meaning.proofs.Invariant.{takesN, takesLock, holdsN, holdsLock, kept, Inv}
+use Rattle.meaning.proofs.Invariant.{takesN, takesLock, holdsN, holdsLock, Inv}
 use Rattle.meaning.proofs.Keeping.{Moves, up, entry-kept, unheld-kept}
 use Rattle.meaning.proofs.Sharing.{fact}
 use Rattle.meaning.proofs.ManagerView.{leaves, promised, future, owes, owing}

@@ -13,7 +13,8 @@ use Rattle.meaning.specs.Holding.{free, named}
 use Rattle.meaning.specs.Programs.{WRITE, READ, LEVEL}
 use Rattle.meaning.specs.Manager.{empty}
 use Rattle.meaning.specs.Schedule.{Answered, emit}
-use Rattle.meaning.proofs.Invariant.{_–_, never, row, holdsN, takesN, kept}
+use Rattle.meaning.specs.Demands.{kept}
+use Rattle.meaning.proofs.Invariant.{_–_, never, row, holdsN, takesN}
 
 -- what an operation with word c leaves of its number's content x
 abbrev pub leaves : ℕ → ℕ → ℕ → ℕ

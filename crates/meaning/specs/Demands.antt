@@ -1,15 +1,27 @@
 -- What demands 2 and 3 say of a schedule w that starts from s, over any kind of store, as in Schedule: stores, and areas of bytes.
 use mathlib.Core.Path.{_≡_}
-use mathlib.Core.Bool.{Bool, true, false, not, _&&_}
+use mathlib.Core.Bool.{Bool, true, false, not, cond, _&&_, _||_}
 use mathlib.Core.List.{List, [], _∷_, _++_, map}
 use Prim.Native.Nat.{ℕ, zero, suc, _<_, _≤_}
 use lib.Dec.{eqb}
 use lib.ListN.{length}
+use Rattle.meaning.specs.declared.Thread.{Thread}
 use Rattle.meaning.specs.Store.{Store}
+use Rattle.meaning.specs.Holding.{free, named}
 use Rattle.meaning.specs.Programs.{WRITE, READ, LEVEL}
 use Rattle.meaning.specs.Call.{Reply, Entry, isIdle}
-use Rattle.meaning.specs.Manager.{initial}
+use Rattle.meaning.specs.Manager.{empty, initial}
 use Rattle.meaning.specs.Schedule.{Operation, operation, Answered, emit, placed, run, order, begunBy, finishedBy, serial, managed, ofManager}
+
+-- ---- what a store keeps
+
+-- what number k's block holds: 0, the empty content, where it is unmapped
+abbrev pub kept : Store → ℕ → ℕ
+kept s k = cond (free (s .map k)) empty (s .content (named (s .map k)))
+
+-- a reader or a leveller, which leave what a number's block holds
+abbrev pub leavesAlone : Thread → Bool
+leavesAlone r = eqb (r .op) LEVEL || eqb (r .op) READ
 
 -- ---- a thread's operations
 
@@ -71,6 +83,15 @@ writes k o = eqb (o .op) WRITE && eqb (o .number) k
 -- a write or an unmap of k: neither a levelling nor a read
 abbrev pub changes : ℕ → Operation → Bool
 changes k o = not (eqb (o .op) LEVEL) && (not (eqb (o .op) READ) && eqb (o .number) k)
+
+-- c is what a read of number k gives after operations l: the word of the last write of k, and empty if an unmap of k came after it or
+-- if k was neither written nor unmapped
+pub data Gives (k : ℕ) (l : List Operation) : ℕ → Type 0 where
+  last-write : (before : List Operation) (o : Operation) (since : List Operation) → l ≡ before ++ (o ∷ since) → writes k o ≡ true →
+      Without (changes k) since → Gives k l (o .word)
+  last-unmap : (before : List Operation) (o : Operation) (since : List Operation) → l ≡ before ++ (o ∷ since) → changes k o ≡ true →
+      writes k o ≡ false → Without (changes k) since → Gives k l empty
+  untouched : Without (changes k) l → Gives k l empty
 
 -- ---- what is said
 

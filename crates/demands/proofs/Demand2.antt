@@ -6,7 +6,8 @@
 --    How their definition is met field by field is said at the head of the crate meaning's proofs/Linearizable.
 --  * area-read-gives: a read that has finished gave the word of the last write of its number before it in that order, and 0 if an
 --    unmap came after that write or if there is none.
---  * area-manager-holds: what a number's block holds is what the manager holds of it, wherever no writer and no unmapper has its lock.
+--  * area-manager-holds: what a number's block holds is what the manager holds of it, wherever no writer and no unmapper has its lock;
+--    so where all threads are idle, of every number (area-manager-holds-rest).
 --  * grown-one-block-each: two numbers never share a block.
 -- The definitions are those of the crate meaning, specs/Demands and specs/Manager. Assumes nothing.
 use mathlib.Core.Path.{_≡_, sym, subst}
@@ -16,14 +17,15 @@ use Prim.Native.Nat.{ℕ, _<_}
 use lib.ListN.{length, getD}
 use Rattle.meaning.specs.Holding.{free, heldBy, named}
 use Rattle.meaning.specs.Programs.{READ}
-use Rattle.meaning.specs.Call.{Entry, callStore}
+use Rattle.meaning.specs.Call.{Entry, callStore, isIdle}
 use Rattle.meaning.specs.Manager.{initial, ebmRead}
 use Rattle.meaning.specs.Schedule.{Operation, Answered, run, order, finishedBy, obeyAll, managed, ofManager}
 use Rattle.meaning.specs.Demands.{kept, leavesAlone, pending, Owed, requests, Gives, ManagerAnswers, Linearizes}
-use Rattle.meaning.proofs.ManagerAnswers.{manager-answers, manager-holds-kept}
+use Rattle.meaning.proofs.ManagerAnswers.{manager-answers, manager-holds-kept, manager-holds-rest}
 use Rattle.meaning.proofs.Linearizable.{linearizable, reads-give, read-finished, one-block-each}
 use Rattle.store.specs.Area.{decode}
 use Rattle.store.specs.Calls.{callArea, Formatted, Grown}
+use Rattle.demands.specs.Demand1.{rests}
 use Rattle.demands.specs.Schedule.{AllWords}
 use Rattle.demands.proofs.Bridge.{order-decoded, begunBy-decoded, finishedBy-decoded, formatted-good, formatted-fresh, grown-inv}
 use Rattle.demands.proofs.History.{areas-follow, words-first}
@@ -79,6 +81,14 @@ module _ (a : List ℕ) (f : Formatted a) (w : List Entry) (x : AllWords w) wher
       (λ h. ((v : ℕ) → heldBy v (h .left .locks k) ≡ true → leavesAlone (h .left .thread v) ≡ true) →
       kept (h .left) k ≡ ebmRead k (obeyAll initial (h .order)))
       (λ t n p d limits. manager-holds-kept t n p d limits w k)
+
+  -- and at rest of every number
+  pub area-manager-holds-rest : ((v : ℕ) → rests (run callArea a w) v ≡ true) → (k : ℕ) →
+      kept (decode (run callArea a w)) k ≡ ebmRead k (obeyAll initial (order callArea decode a w))
+  area-manager-holds-rest =
+      areas-follow a f w x
+      (λ h. ((v : ℕ) → isIdle (h .left .thread v) ≡ true) → (k : ℕ) → kept (h .left) k ≡ ebmRead k (obeyAll initial (h .order)))
+      (λ t n p d limits. manager-holds-rest t n p d limits w)
 
 pub grown-one-block-each : (a : List ℕ) → Grown a → (k k′ : ℕ) → free (decode a .map k) ≡ false → free (decode a .map k′) ≡ false →
     (k ≡ k′ → ⊥) → named (decode a .map k) ≡ named (decode a .map k′) → ⊥

@@ -262,8 +262,8 @@ module _ (t n p d : ℕ) (limits : inLimits t n p d ≡ true) (w : List Entry) w
       manager-holds-kept k (λ v h. clash h (free-held v (run callStore (fresh t n p d) w .locks k) f))
 
   -- and at rest, where all threads are idle, of every number
-  pub manager-holds-rest : ((v : ℕ) → run callStore (fresh t n p d) w .thread v ≡ idle) → (k : ℕ) →
+  pub manager-holds-rest : ((v : ℕ) → isIdle (run callStore (fresh t n p d) w .thread v) ≡ true) → (k : ℕ) →
       kept (run callStore (fresh t n p d) w) k ≡ ebmRead k (obeyAll initial (order callStore (λ s. s) (fresh t n p d) w))
   manager-holds-rest rest k =
       let I = inv-run (fresh t n p d) (inv-fresh t n p d limits) w in
-      manager-holds-kept k (λ v h. clash h (I .holds v .locks k ∙ rw (rest v)))
+      manager-holds-kept k (λ v h. clash h (I .holds v .locks k ∙ rw (idle-is _ (I .stands v) (rest v))))

@@ -23,7 +23,7 @@ use Rattle.meaning.proofs.Invariant.{Inv}
 use Rattle.meaning.proofs.Demand1.{inv-fresh, inv-grown}
 use Rattle.store.specs.Layout.{tAt, size}
 use Rattle.store.specs.Area.{Bytes, word, bytes, rows, threadRow, blockRow, words, encode, column, decode, wellFormed}
-use Rattle.store.specs.Calls.{formatArea, callArea, format, Grown}
+use Rattle.store.specs.Calls.{formatArea, callArea, Formatted, format, Grown}
 use Rattle.store.proofs.Sound.{SoundThread, Sound, wellFormed-sound}
 use Rattle.store.proofs.Codec.{InRange, encode-decode, decode-encode, length-encode}
 use Rattle.demands.specs.Schedule.{AllWords, FreshStore, in-limits}
@@ -297,17 +297,26 @@ after-format a t n p d =
     (λ f. rw f (λ e. absurd (omega arith)))))
     (λ l. rw l (λ e. absurd (omega arith)))
 
+pub formatted-good : (a : List ℕ) → Formatted a → Good a
+formatted-good a (format b _ t n p d e) = after-format b t n p d e .good
+
+-- what is so of every fresh store in limits is so of the store in a formatted area
+pub formatted-fresh : (a : List ℕ) → Formatted a → (A : Store → Type 0) →
+    ((t n p d : ℕ) → inLimits t n p d ≡ true → A (fresh t n p d)) → A (decode a)
+formatted-fresh a (format b _ t n p d e) A all =
+    let s = after-format b t n p d e in
+    subst A (sym (s .decoded)) (all t n p d (s .limits))
+
 -- what is known of a grown area
 pub record Lives (a : List ℕ) : Type 0 where
   pub good : Good a
   pub grown : GrownStore callStore FreshStore (decode a)
 
 pub grown-lives : (a : List ℕ) → Grown a → Lives a
-grown-lives a (formatted (format b _ t n p d e)) =
-    let s = after-format b t n p d e in
+grown-lives a (formatted f) =
     record {
-      good = s .good;
-      grown = subst (GrownStore callStore FreshStore) (sym (s .decoded)) (formatted (in-limits t n p d (s .limits)));
+      good = formatted-good a f;
+      grown = formatted-fresh a f (GrownStore callStore FreshStore) (λ t n p d l. formatted (in-limits t n p d l));
     }
 grown-lives a (called {s = b} g e w) =
     let l = grown-lives b g in

@@ -1,10 +1,10 @@
--- What a schedule does as a whole, its history, is the same of an area grown from fresh and of the store that it holds. So whatever is
--- proved of every history of stores grown from fresh holds of every history of areas grown from fresh (`areas-follow`). And the
+-- What a schedule does as a whole, its history, is the same of an area and of the store that it holds. So whatever is proved of every
+-- history from a fresh store holds of every history from an area that a format left which gave WENT (`areas-follow`). And the
 -- operations in the order of their last locks, run whole one after the other, are again a schedule of words (`serial-words`).
 -- Assumes nothing.
 use mathlib.Core.Path.{_≡_, sym, subst}
 use mathlib.Core.Bool.{Bool, true, false, _&&_}
-use mathlib.Core.List.{List, [], _∷_}
+use mathlib.Core.List.{List, [], _∷_, _++_}
 use mathlib.Core.Logic.{inl, inr}
 use Prim.Native.Nat.{ℕ, zero, suc, _≤_}
 use native.Mathlib.Omega.{arith}
@@ -12,18 +12,18 @@ use lib.Dec.{eqb, ltb}
 use borrow.Author.Tests.{ltb-true, ltb-false}
 use Rattle.meaning.specs.declared.Thread.{Thread}
 use Rattle.meaning.specs.Numbers.{WENT}
-use Rattle.meaning.specs.Limits.{mostWord}
-use Rattle.meaning.specs.Store.{Store, idle}
+use Rattle.meaning.specs.Limits.{mostWord, inLimits}
+use Rattle.meaning.specs.Store.{Store, idle, fresh}
 use Rattle.meaning.specs.Programs.{WRITE, LEVEL}
 use Rattle.meaning.specs.Call.{Entry, begin, step, callStore, storedN, storedC}
-use Rattle.meaning.specs.Schedule.{Operation, operation, emit, takesLast, replies, Grown as GrownStore, order, steps, longest, whole, serial}
+use Rattle.meaning.specs.Schedule.{Operation, operation, emit, takesLast, replies, order, steps, longest, whole, serial}
 use Rattle.meaning.proofs.Words.{either-way}
 use Rattle.store.specs.Area.{decode}
-use Rattle.store.specs.Calls.{callArea, Grown}
+use Rattle.store.specs.Calls.{callArea, Formatted}
 use Rattle.store.proofs.Sound.{SoundThread}
-use Rattle.demands.specs.Schedule.{AllWords, FreshStore, History, history}
+use Rattle.demands.specs.Schedule.{AllWords, History, history}
 use Rattle.demands.proofs.Range.{Ranged}
-use Rattle.demands.proofs.Bridge.{Good, good-ranged, after-call, run-decoded, replies-decoded, order-decoded, begunBy-decoded, finishedBy-decoded, grown-lives}
+use Rattle.demands.proofs.Bridge.{Good, good-ranged, after-call, run-decoded, replies-decoded, order-decoded, begunBy-decoded, finishedBy-decoded, formatted-good, formatted-fresh}
 
 pub history-decoded : (a : List ℕ) → Good a → (w : List Entry) → AllWords w →
     history callArea decode a w ≡ history callStore (λ s. s) (decode a) w
@@ -36,12 +36,15 @@ history-decoded a g w x = λ i.
       finished = λ t. finishedBy-decoded a g t w x i;
     }
 
-pub areas-follow : (A : Store → History → Type 0) →
-    ((s : Store) → GrownStore callStore FreshStore s → (w : List Entry) → AllWords w → A s (history callStore (λ s. s) s w)) →
-    (a : List ℕ) → Grown a → (w : List Entry) → AllWords w → A (decode a) (history callArea decode a w)
-areas-follow A all a g w x =
-    let l = grown-lives a g in
-    subst (A (decode a)) (sym (history-decoded a (l .good) w x)) (all (decode a) (l .grown) w x)
+pub areas-follow : (a : List ℕ) → Formatted a → (w : List Entry) → AllWords w → (A : History → Type 0) →
+    ((t n p d : ℕ) → inLimits t n p d ≡ true → A (history callStore (λ s. s) (fresh t n p d) w)) → A (history callArea decode a w)
+areas-follow a f w x A all =
+    subst A (sym (history-decoded a (formatted-good a f) w x)) (formatted-fresh a f (λ s. A (history callStore (λ s. s) s w)) all)
+
+-- the first part of a schedule of words is one
+pub words-first : (v v′ : List Entry) → AllWords (v ++ v′) → AllWords v
+words-first [] v′ x = tt
+words-first (e ∷ v) v′ x = (x .0, words-first v v′ (x .1))
 
 -- ---- the serial schedule
 

@@ -3,6 +3,8 @@
 --  * meetings-come, meetings-grown: areas grown from fresh where two threads are open at once. In the middle of a write and of a levelling
 --    that moves a block they step in either order, to the same bytes; about to take the same lock, whoever comes second is BLOCKED, and
 --    the bytes are others.
+--  * overtaking-comes: a read that overtakes a write stands before it in the order of last locks and gives empty; the bytes are those of
+--    the operations run one at a time in that order.
 -- Assumes nothing.
 use mathlib.Core.Path.{_≡_, refl}
 use mathlib.Core.Bool.{Bool, true, _&&_}
@@ -20,7 +22,7 @@ use Rattle.meaning.proofs.Words.{and-left, and-right}
 use Rattle.store.specs.Layout.{size}
 use Rattle.store.specs.Area.{Bytes, wellFormed}
 use Rattle.store.specs.Calls.{format, Grown}
-use Rattle.demands.specs.Reached.{met, needs, Meeting, formed, reached, meet, meetings, Each}
+use Rattle.demands.specs.Reached.{met, needs, Meeting, formed, reached, meet, meetings, Each, overlap, overtaking, overtaken}
 use Rattle.demands.specs.Schedule.{AllWords}
 use Rattle.demands.proofs.Bridge.{run-grown}
 
@@ -31,6 +33,10 @@ needs-fault = refl
 pub meetings-come : map (λ m. meet (reached m)) meetings ≡ map (λ m. m .comes) meetings
 unfolding meetings wellFormed
 meetings-come = refl
+
+pub overtaking-comes : overlap (formed 2 1 2 1 .after) overtaking ≡ overtaken
+unfolding wellFormed
+overtaking-comes = refl
 
 -- ---- the meetings' areas are grown from fresh
 

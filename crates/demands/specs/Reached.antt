@@ -1,5 +1,5 @@
--- What the demands' theorems are not empty of, as data: areas made by hand whose step meets FAULT, one for each need of each act, and
--- areas grown from fresh at which two threads meet.
+-- What the demands' theorems are not empty of, as data: areas made by hand whose step meets FAULT, one for each need of each act, areas
+-- grown from fresh at which two threads meet, and operations that overlap.
 use mathlib.Core.Bool.{Bool, true, false, _&&_}
 use mathlib.Core.List.{List, [], _∷_}
 use Prim.Native.Nat.{ℕ, _+_}
@@ -7,11 +7,13 @@ use lib.ListN.{replicate, set}
 use lib.Dec.{eqb, leb}
 use Rattle.meaning.specs.Numbers.{WENT, FINISHED, BLOCKED}
 use Rattle.meaning.specs.Programs.{WRITE, READ, UNMAP, LEVEL}
-use Rattle.meaning.specs.Call.{Reply, Entry, begin}
-use Rattle.meaning.specs.Schedule.{run, steps}
+use Rattle.meaning.specs.Call.{Reply, Entry, begin, step}
+use Rattle.meaning.specs.Schedule.{Operation, operation, Answered, run, order, finishedBy, steps}
+use Rattle.meaning.specs.Demands.{one-by-one}
 use Rattle.store.specs.Layout.{lockAt, ownerAt, locksAt, blocksAt, size}
 use Rattle.store.specs.Area.{bytes, decode}
 use Rattle.store.specs.Calls.{formatArea, callArea, stepArea}
+use Rattle.demands.specs.Demand1.{rests}
 
 -- ---- needs that are not met
 
@@ -201,3 +203,43 @@ meetings =
 abbrev pub Each : (Meeting → Type 0) → List Meeting → Type 0
 Each A [] = Unit {0}
 Each A (m ∷ l) = A m × Each A l
+
+-- ---- operations that overlap
+
+-- what a schedule comes to, on a formatted area of two threads: the operations in the order of their last locks, what each thread has
+-- finished with, whether both are idle, and whether the bytes are those that the operations leave one at a time
+pub record Overlapped : Type 0 where
+  pub order : List Operation
+  pub zeroth : List Answered
+  pub other : List Answered
+  pub resting : Bool
+  pub alike : Bool
+
+abbrev pub overlap : List ℕ → List Entry → Overlapped
+overlap a w =
+    record {
+      order = order callArea decode a w;
+      zeroth = finishedBy callArea decode a 0 w;
+      other = finishedBy callArea decode a 1 w;
+      resting = rests (run callArea a w) 0 && rests (run callArea a w) 1;
+      alike = sameBytes (run callArea a w) (run callArea a (one-by-one callArea decode a w));
+    }
+
+abbrev pub answered : ℕ → ℕ → Answered
+answered op value = record { op = op; value = value }
+
+-- Thread 0 begins a write and takes H; thread 1 begins a read of the same number and takes its lock first, so that the write is BLOCKED at
+-- W2. The read finishes with empty, and then the write; a second read gives the word.
+abbrev pub overtaking : List Entry
+overtaking = begin 0 WRITE 0 7 ∷ step 0 ∷ begin 1 READ 0 0 ∷ step 1 ∷ step 0 ∷ steps 2 1 (steps 15 0 (does 1 READ 0 0 6 []))
+
+-- the first read stands before the write that was begun before it
+abbrev pub overtaken : Overlapped
+overtaken =
+    record {
+      order = operation 1 READ 0 0 ∷ operation 0 WRITE 0 7 ∷ operation 1 READ 0 0 ∷ [];
+      zeroth = answered WRITE 0 ∷ [];
+      other = answered READ 0 ∷ answered READ 7 ∷ [];
+      resting = true;
+      alike = true;
+    }

@@ -2,30 +2,30 @@
 -- a store faults; and where some thread has open work, some open thread can step.
 -- Assumes nothing.
 use mathlib.Core.Path.{_≡_, refl, sym, _∙_, subst}
-use mathlib.Core.Bool.{Bool, true, false, _||_}
+use mathlib.Core.Bool.{Bool, true, false}
 use mathlib.Core.List.{List, [], _∷_}
 use mathlib.Core.Logic.{_⊎_, inl, inr}
 use Prim.Native.Nat.{ℕ, _<_, _≤_}
 use native.Mathlib.Omega.{arith}
-use lib.Dec.{eqb, ltb, leb}
+use lib.Dec.{ltb, leb}
 use borrow.Author.Tests.{ltb-true, ltb-false, lt-ltb}
 use Rattle.meaning.specs.declared.Thread.{Thread}
 use Rattle.meaning.specs.declared.Verdict.{Verdict}
 use Rattle.meaning.specs.declared.Verdict.the-variants.{Blocked, Fault, Go, Done}
 use Rattle.meaning.specs.Numbers.{FINISHED}
-use Rattle.meaning.specs.Limits.{within, inLimits}
+use Rattle.meaning.specs.Limits.{inLimits}
 use Rattle.meaning.specs.Store.{Store, idle, fresh}
 use Rattle.meaning.specs.Holding.{none, free, heldBy}
-use Rattle.meaning.specs.Programs.{WRITE, LEVEL}
 use Rattle.meaning.specs.Step.{nothing, verdict}
-use Rattle.meaning.specs.Call.{Entry, begin, step, callStore, reply, told, isIdle, begun}
+use Rattle.meaning.specs.Call.{Entry, step, callStore, reply, told, isIdle, begun}
 use Rattle.meaning.specs.Schedule.{run, Grown, formatted, called}
 use Rattle.meaning.proofs.Words.{either-way, clash, and-left, none-held, held-by, held-below, naming-not-none}
 use Rattle.meaning.proofs.Invariant.{holdsH, holdsN, ownsHeaders, holdsLock, ownsBlock, Inv}
 use Rattle.meaning.proofs.Keeping.{moves-inv}
 use Rattle.meaning.proofs.Sharing.{limits-sizes}
 use Rattle.meaning.proofs.Lines.{Waits, for-H, for-N, Fine, facts-idle}
-use Rattle.meaning.proofs.EveryLine.{idle-is, fine, begins}
+use Rattle.meaning.proofs.EveryLine.{idle-is, fine}
+use Rattle.meaning.proofs.Called.{Called, stays, opens, goes, ends, call-cases}
 
 -- ---- every store grown from fresh satisfies the invariant
 
@@ -47,31 +47,15 @@ inv-fresh t n p d l =
       mapped = λ m k e. naming-not-none k none e refl;
     }
 
-module _ (s : Store) (I : Inv s) where
-  told-inv : (t : ℕ) → t < s .threads → (v : Verdict) → Fine s t (s .thread t) v →
-      Inv (reply (λ s′. s′) s (told s t v) .after)
-  told-inv t below Blocked f = I
-  told-inv t below Fault f = absurd f
-  told-inv t below (Go r′ e) f = moves-inv s I t r′ e f below
-  told-inv t below (Done answer e) f = moves-inv s I t idle e f below
+-- refused calls leave the store as it was
+inv-called : (s : Store) → Inv s → {e : Entry} → Called s e → Inv (callStore s e .after)
+inv-called s I (stays number _ _ x) = rw x I
+inv-called s I (opens t op n c below rests m x) = rw x (moves-inv s I t (begun op n c) nothing m below)
+inv-called s I (goes t r′ e below busy g x) = rw x (moves-inv s I t r′ e (g .moves) below)
+inv-called s I (ends t value e below busy g x) = rw x (moves-inv s I t idle e (g .moves) below)
 
-  -- refused calls leave the store as it was
-  pub inv-call : (e : Entry) → Inv (callStore s e .after)
-  inv-call (begin t op n c) =
-      either-way (ltb t (s .threads))
-      (λ b. rw b (either-way (isIdle (s .thread t))
-      (λ x. rw x (either-way (within WRITE LEVEL op)
-      (λ y. rw y (either-way (eqb op LEVEL || ltb n (s .numbers))
-      (λ z. rw z (moves-inv s I t (begun op n c) nothing (begins s I t x op n c y z) (ltb-true t (s .threads) b)))
-      (λ z. rw z I)))
-      (λ y. rw y I)))
-      (λ x. rw x I)))
-      (λ b. rw b I)
-  inv-call (step t) =
-      either-way (ltb t (s .threads))
-      (λ b. rw b (either-way (isIdle (s .thread t)) (λ x. rw x I)
-      (λ x. rw x (told-inv t (ltb-true t (s .threads) b) (verdict s t) (fine s I t x)))))
-      (λ b. rw b I)
+pub inv-call : (s : Store) → Inv s → (e : Entry) → Inv (callStore s e .after)
+inv-call s I e = inv-called s I (call-cases s I e)
 
 pub inv-run : (s : Store) → Inv s → (w : List Entry) → Inv (run callStore s w)
 inv-run s I [] = I
@@ -117,7 +101,7 @@ module _ (s : Store) (I : Inv s) where
       go (inr w) = waits w
 
   -- whoever has a flag up is below T and open
-  up-busy : (flag : Thread → Bool) → flag idle ≡ false → (v : ℕ) → flag (s .thread v) ≡ true →
+  pub up-busy : (flag : Thread → Bool) → flag idle ≡ false → (v : ℕ) → flag (s .thread v) ≡ true →
       (v < s .threads) × (isIdle (s .thread v) ≡ false)
   up-busy flag down v x = (
     either-way (ltb v (s .threads)) (λ b. ltb-true v (s .threads) b) (λ b. rests (I .past v (ltb-false v (s .threads) b))),

@@ -90,7 +90,7 @@ need-alike true false x y e = absurd (y refl)
 need-alike false true x y e = absurd (x refl)
 need-alike false false x y e = refl
 
-choosing-alike : (s s′ : Store) (r : Thread) → s′ .wear ≡ s .wear → s′ .distance ≡ s .distance → (to from : Found) →
+pub choosing-alike : (s s′ : Store) (r : Thread) → s′ .wear ≡ s .wear → s′ .distance ≡ s .distance → (to from : Found) →
     choosing s′ r to from ≡ choosing s r to from
 choosing-alike s s′ r w d Nobody from = refl
 choosing-alike s s′ r w d (At to) from = rw (w, d)
@@ -196,7 +196,7 @@ module _ (s : Store) (I : Inv s) (t : ℕ) (r′ : Thread) (e : Effect) (M : Mov
   perform-alike (MapTo c) l b x y = refl
   perform-alike Unmap l b x y = refl
 
-  verdict-alike : t < s .threads → u < s .threads → isIdle (s .thread u) ≡ false → (verdict s u ≡ Blocked → ⊥) →
+  pub verdict-alike : t < s .threads → u < s .threads → isIdle (s .thread u) ≡ false → (verdict s u ≡ Blocked → ⊥) →
       verdict (apply s t r′ e) u ≡ verdict s u
   verdict-alike below u-below busy goes =
       let other : eqb t u ≡ false = ne-eqb t u apart in
@@ -241,7 +241,7 @@ module _ (t u : ℕ) (apart : t ≡ u → ⊥) where
   tables-commute g h both (Put i v) Keep f x y = refl
   tables-commute g h both (Put i v) (Put j w) f x y = upds-commute f i j v w (λ e. both i x (subst h (sym e) y))
 
-  applies-commute : (s : Store) (r q r′ q′ : Thread) (c d : Effect) → Guards s t r c → Guards s u q d →
+  pub applies-commute : (s : Store) (r q r′ q′ : Thread) (c d : Effect) → Guards s t r c → Guards s u q d →
       Guards (apply s t r′ c) u q d → apply (apply s t r′ c) u q′ d ≡ apply (apply s u q′ d) t r′ c
   applies-commute s r q r′ q′ c d G K L =
       let H-once : heldBy t (s .lock) ≡ true → heldBy u (s .lock) ≡ true → ⊥ = λ x y. apart (held-once t u (s .lock) x y) in
@@ -279,29 +279,29 @@ module _ (t u : ℕ) (apart : t ≡ u → ⊥) where
 -- ---- a step that goes
 
 -- a verdict that is no refusal: its number and value, the next record and the effect
-data Goes : Verdict → ℕ → ℕ → Thread → Effect → Type 0 where
+pub data Goes : Verdict → ℕ → ℕ → Thread → Effect → Type 0 where
   goes : {r : Thread} {e : Effect} → Goes (Go r e) WENT 0 r e
   ends : {a : ℕ} {e : Effect} → Goes (Done a e) FINISHED a idle e
 
 -- thread t is open, and its verdict goes
-record Going (s : Store) (t : ℕ) : Type 0 where
-  below : t < s .threads
-  busy : isIdle (s .thread t) ≡ false
-  number : ℕ
-  value : ℕ
-  becomes : Thread
-  effect : Effect
-  told′ : Goes (verdict s t) number value becomes effect
+pub record Going (s : Store) (t : ℕ) : Type 0 where
+  pub below : t < s .threads
+  pub busy : isIdle (s .thread t) ≡ false
+  pub number : ℕ
+  pub value : ℕ
+  pub becomes : Thread
+  pub effect : Effect
+  pub told′ : Goes (verdict s t) number value becomes effect
 
-abbrev left-by : (s : Store) (t : ℕ) → Going s t → Store
+abbrev pub left-by : (s : Store) (t : ℕ) → Going s t → Store
 left-by s t g = apply s t (g .becomes) (g .effect)
 
 -- what its call replies
-abbrev answered : (s : Store) (t : ℕ) → Going s t → Reply Store
+abbrev pub answered : (s : Store) (t : ℕ) → Going s t → Reply Store
 answered s t g = record { number = g .number; value = g .value; after = left-by s t g }
 
 module _ (s : Store) (t : ℕ) where
-  told-going : t < s .threads → isIdle (s .thread t) ≡ false → (v : Verdict) → v ≡ verdict s t →
+  pub told-going : t < s .threads → isIdle (s .thread t) ≡ false → (v : Verdict) → v ≡ verdict s t →
       leb (reply (λ s′. s′) s (told s t v) .number) FINISHED ≡ true → Going s t
   told-going below busy Blocked e c = clash c refl
   told-going below busy Fault e c = clash c refl
@@ -326,7 +326,7 @@ module _ (s : Store) (t : ℕ) where
         told′ = subst (λ (v : Verdict). Goes v FINISHED a idle f) e ends;
       }
 
-  can-going : CanStep s t → Going s t
+  pub can-going : CanStep s t → Going s t
   can-going c =
       either-way (ltb t (s .threads))
       (λ b. either-way (isIdle (s .thread t)) (λ x. clash (rw (b, x) at c) refl)
@@ -338,21 +338,21 @@ module _ (s : Store) (t : ℕ) where
   goes-reply v n a r e goes = refl
   goes-reply v n a r e ends = refl
 
-  going-reply : (g : Going s t) → callStore s (step t) ≡ answered s t g
+  pub going-reply : (g : Going s t) → callStore s (step t) ≡ answered s t g
   going-reply g =
       rw (lt-ltb t (s .threads) (g .below), g .busy)
       (goes-reply (verdict s t) (g .number) (g .value) (g .becomes) (g .effect) (g .told′))
 
   goes-moves : (v : Verdict) (n a : ℕ) (q r : Thread) (e : Effect) → Goes v n a r e → Fine s t q v → Moves s t q r e
-  goes-moves v n a q r e goes f = f
-  goes-moves v n a q r e ends f = f
+  goes-moves v n a q r e goes f = f .moves
+  goes-moves v n a q r e ends f = f .moves
 
-  going-moves : Inv s → (g : Going s t) → Moves s t (s .thread t) (g .becomes) (g .effect)
+  pub going-moves : Inv s → (g : Going s t) → Moves s t (s .thread t) (g .becomes) (g .effect)
   going-moves I g =
       goes-moves (verdict s t) (g .number) (g .value) (s .thread t) (g .becomes) (g .effect) (g .told′)
       (fine s I t (g .busy))
 
-  goes-unblocked : (v : Verdict) (n a : ℕ) (r : Thread) (e : Effect) → Goes v n a r e → v ≡ Blocked → ⊥
+  pub goes-unblocked : (v : Verdict) (n a : ℕ) (r : Thread) (e : Effect) → Goes v n a r e → v ≡ Blocked → ⊥
   goes-unblocked v n a r e goes x = let z : _≡_ {A = ℕ} 0 1 = cc in omega arith
   goes-unblocked v n a r e ends x = let z : _≡_ {A = ℕ} 0 1 = cc in omega arith
 
@@ -384,7 +384,7 @@ module _ (s : Store) (I : Inv s) (t u : ℕ) (apart : t ≡ u → ⊥) (others :
 
 -- ---- either order
 
-sameTake-sym : (r q : Thread) → sameTake r q ≡ false → sameTake q r ≡ false
+pub sameTake-sym : (r q : Thread) → sameTake r q ≡ false → sameTake q r ≡ false
 sameTake-sym r q x =
     either-way (sameTake q r)
     (λ y. clash (or-way (takesH q && takesH r) (takesN r && takesLock q (r .n)) y

@@ -36,7 +36,7 @@ idle-is r (inl e) rests = e
 idle-is r (inr o) rests = absurd (idle-not-open r o rests)
 
 -- an open thread stands at a line
-open-line : (r : Thread) → Stands r → isIdle r ≡ false → onLine r ≡ true
+pub open-line : (r : Thread) → Stands r → isIdle r ≡ false → onLine r ≡ true
 open-line r (inl e) busy = clash refl (rw e at busy)
 open-line r (inr o) busy = o
 

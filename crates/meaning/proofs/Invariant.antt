@@ -21,7 +21,7 @@
 --
 -- Definitions only. Assumes nothing.
 use mathlib.Core.Path.{_≡_}
-use mathlib.Core.Bool.{Bool, true, false, cond, _&&_, _||_}
+use mathlib.Core.Bool.{Bool, true, false, _&&_, _||_}
 use mathlib.Core.List.{List, [], _∷_, _++_}
 use mathlib.Core.Logic.{_⊎_}
 use Prim.Native.Nat.{ℕ, _≤_, _<_}
@@ -36,9 +36,10 @@ use Rattle.meaning.specs.declared.Effect.{Effect}
 use Rattle.meaning.specs.declared.Found.the-variants.{At}
 use Rattle.meaning.specs.Limits.{within, inLimits}
 use Rattle.meaning.specs.Store.{Store, idle}
-use Rattle.meaning.specs.Holding.{none, free, by, heldBy, naming, named}
+use Rattle.meaning.specs.Holding.{none, free, by, heldBy, naming}
 use Rattle.meaning.specs.Programs.{WRITE, LEVEL, lastLine}
 use Rattle.meaning.specs.Choosing.{toBlock, leastWorn, fromBlock}
+use Rattle.meaning.specs.Demands.{kept}
 
 infix 50 _–_
 -- ---- the table
@@ -188,10 +189,6 @@ pub record Holds (s : Store) (v : ℕ) (r : Thread) : Type 0 where
   pub owner : heldBy v (s .owner) ≡ ownsHeaders r
   pub locks : (k : ℕ) → heldBy v (s .locks k) ≡ holdsLock r k
   pub own : (m : ℕ) → heldBy v (s .own m) ≡ ownsBlock r m
-
--- what number k's block holds: 0, the empty content, where it is unmapped
-abbrev pub kept : Store → ℕ → ℕ
-kept s k = cond (free (s .map k)) 0 (s .content (named (s .map k)))
 
 -- p and q are what choosing gives now
 abbrev pub Chosen : Store → Thread → Type 0

@@ -3,7 +3,7 @@
 -- a kind of fact is enough, and no two lines or acts are compared.
 -- Assumes nothing.
 use mathlib.Core.Path.{_≡_, refl, sym, _∙_, subst, fun-ext}
-use mathlib.Core.Bool.{Bool, true, false, not, _&&_, _||_, or-true}
+use mathlib.Core.Bool.{Bool, true, false, not, cond, _&&_, _||_, or-true}
 use mathlib.Core.Logic.{inl, inr}
 use Prim.Native.Nat.{ℕ, zero, suc, _+_, _-_, _<_, _≤_}
 use native.Mathlib.Omega.{arith}
@@ -21,8 +21,10 @@ use Rattle.meaning.specs.Store.{Store, idle}
 use Rattle.meaning.specs.Holding.{free, heldBy, naming, named}
 use Rattle.meaning.specs.Programs.{WRITE, LEVEL, lastLine}
 use Rattle.meaning.specs.Step.{become, put, apply}
+use Rattle.meaning.specs.Demands.{kept}
 use Rattle.meaning.proofs.Words.{same, either-way, and-left, and-right, or-way, within-true, by-other, none-held, free-held, held-is, held-once, naming-named, upd-other, upd-each}
-use Rattle.meaning.proofs.Invariant.{takesH, takesLock, takes, gives, holdsH, holdsN, ownsHeaders, ownsP, ownsQ, n-unmapped, n-on-p, n-on-q, p-free, q-free, p-headed, q-headed, h-heads-p, chosen-now, c-of-p, q-has-c, c-of-n, If, ownsBlock, leadsAstray, Holds, kept, Facts, Stands, Changes, Puts, Passes, GuardsMap, GuardsHeader, GuardsContent, GuardsWear, Guards, Agrees, Back, Astray, Inv}
+use Rattle.meaning.proofs.Invariant.{takesH, takesN, takesLock, takes, gives, holdsH, holdsN, ownsHeaders, ownsP, ownsQ, n-unmapped, n-on-p, n-on-q, p-free, q-free, p-headed, q-headed, h-heads-p, chosen-now, c-of-p, q-has-c, c-of-n, If, ownsBlock, leadsAstray, Holds, Facts, Stands, Changes, Puts, Passes, GuardsMap, GuardsHeader, GuardsContent, GuardsWear, Guards, Agrees, Back, Astray, Inv}
+use Rattle.meaning.proofs.ManagerView.{leaves, promised}
 
 -- ---- a rule of the table, tested at every line
 
@@ -77,7 +79,7 @@ entry-kept about t v apart (Put i w) f x k =
     upd-each (λ k y. heldBy v y ≡ heldBy v (f k)) f i w (passes-other t v (f i) w apart x) (λ k _. refl) k
 
 -- an entry whose guard its writer can't have stays as it was
-put-kept : (c : Entry) (f : ℕ → ℕ) (guard : ℕ → ℕ → Type 0) → Puts c guard → (k : ℕ) →
+pub put-kept : (c : Entry) (f : ℕ → ℕ) (guard : ℕ → ℕ → Type 0) → Puts c guard → (k : ℕ) →
     ((w : ℕ) → guard k w → ⊥) → put c f k ≡ f k
 put-kept Keep f guard g k lacks = refl
 put-kept (Put i w) f guard g k lacks = upd-other f i k w (λ e. lacks w (subst (λ (j : ℕ). guard j w) e g))
@@ -98,6 +100,18 @@ pub q-owned : (r : Thread) → ownsQ r ≡ true → ownsBlock r (r .q) ≡ true
 q-owned r x = rw (x, same (r .q))
 
 -- ---- a step of t, seen by another thread v
+
+-- what a number's block holds stays as it is where t doesn't hold the number's lock
+pub unheld-kept : (s : Store) (t : ℕ) (r : Thread) (e : Effect) → Guards s t r e → (r′ : Thread) (k : ℕ) →
+    (heldBy t (s .locks k) ≡ true → ⊥) → kept (apply s t r′ e) k ≡ kept s k
+unheld-kept s t r e G r′ k lacks =
+    rw (put-kept (e .map) (s .map) (λ k w. GuardsMap s t k) (G .map) k (λ w g. lacks (g .locks)))
+    (either-way (free (s .map k)) (λ f. rw f)
+    (λ f. rw (
+      f,
+      put-kept (e .content) (s .content) (λ m w. GuardsContent s t m) (G .content) (named (s .map k))
+          (λ w g. lacks (g .locks k (naming-named (s .map k) f))),
+    )))
 
 module _ (s : Store) (I : Inv s) (t : ℕ) (r : Thread) (e : Effect) (G : Guards s t r e) (v : ℕ) (apart : t ≡ v → ⊥) where
   -- t has no lock, owner or block that v has
@@ -136,14 +150,7 @@ module _ (s : Store) (I : Inv s) (t : ℕ) (r : Thread) (e : Effect) (G : Guards
       put-kept (e .content) (s .content) (λ m w. GuardsContent s t m) (G .content) m (λ w g. own-lacks m x (g .own))
 
   seen-kept : (r′ : Thread) → holdsN (s .thread v) ≡ true → kept (apply s t r′ e) (s .thread v .n) ≡ kept s (s .thread v .n)
-  seen-kept r′ x =
-      let k = s .thread v .n in
-      rw (map-kept (rw x)) (either-way (free (s .map k)) (λ f. rw f)
-      (λ f. rw (
-        f,
-        put-kept (e .content) (s .content) (λ m w. GuardsContent s t m) (G .content) (named (s .map k))
-            (λ w g. locks-lacks x (g .locks k (naming-named (s .map k) f))),
-      )))
+  seen-kept r′ x = unheld-kept s t r e G r′ (s .thread v .n) (locks-lacks x)
 
   holds-kept : (r′ : Thread) → Holds (apply s t r′ e) v (s .thread v)
   holds-kept r′ =
@@ -204,6 +211,11 @@ pub record Moves (s : Store) (t : ℕ) (r r′ : Thread) (e : Effect) : Type 0 w
   pub mapped : (m k : ℕ) → put (e .header) (s .header) m ≡ naming k →
       (s .header m ≡ naming k → Back (s .map) m k (leadsAstray r m ≡ true)) →
       Back (put (e .map) (s .map)) m k (leadsAstray r′ m ≡ true)
+  -- what t's number will hold stays as it is, but where t takes the number's lock: there it becomes what t's operation leaves
+  pub promise : promised r′ (kept (apply s t r′ e) (r .n)) ≡
+      cond (takesN r) (leaves (r .op) (r .c) (kept s (r .n))) (promised r (kept s (r .n)))
+  pub same-n : If (holdsN r′) (r′ .n ≡ r .n)
+  pub taken : If (takesN r) (holdsN r′ ≡ true)
 
 module _ (s : Store) (I : Inv s) (t : ℕ) (r′ : Thread) (e : Effect) (M : Moves s t (s .thread t) r′ e) where
   mapped-kept : (m k : ℕ) → put (e .header) (s .header) m ≡ naming k →

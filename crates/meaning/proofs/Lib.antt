@@ -1,6 +1,7 @@
 -- What is proved of the machine, in the order in which it is built up.
 pub mod Words
 pub mod Invariant
+pub mod ManagerView
 pub mod Keeping
 pub mod Blocks
 pub mod Sharing
@@ -10,5 +11,22 @@ pub mod Read
 pub mod Unmap
 pub mod Level
 pub mod EveryLine
+pub mod Called
 pub mod Demand1
 pub mod EitherOrder
+pub mod Schedules
+pub mod ManagerLaws
+pub mod ManagerStep
+pub mod ManagerAnswers
+pub mod Shapes
+pub mod Places
+pub mod Settles
+pub mod Alone
+pub mod Replay
+pub mod LastLock
+pub mod OneAtATime
+pub mod EachOnce
+pub mod ManagerOrder
+pub mod Linearizable
+pub mod ManagerSamples
+pub mod OneAtATimeSamples

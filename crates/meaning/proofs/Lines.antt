@@ -3,21 +3,26 @@
 -- Assumes nothing.
 use mathlib.Core.Path.{_≡_, refl, sym, ap, _∙_, subst}
 use mathlib.Core.Bool.{Bool, true, false, _||_}
+use mathlib.Core.List.{[], _∷_}
 use mathlib.Core.Logic.{_⊎_, inl, inr}
 use Prim.Native.Nat.{ℕ, zero, suc, _+_, _<_, _≤_}
 use native.Mathlib.Omega.{arith}
 use lib.Dec.{eqb}
 use borrow.Author.Tests.{eqb-true, eqb-false, eq-eqb, ne-eqb}
 use Rattle.meaning.specs.declared.Thread.{Thread}
+use Rattle.meaning.specs.declared.Effect.{Effect}
 use Rattle.meaning.specs.declared.Verdict.{Verdict}
 use Rattle.meaning.specs.declared.Verdict.the-variants.{Blocked, Fault, Go, Done}
 use Rattle.meaning.specs.Table.{upd}
 use Rattle.meaning.specs.Store.{Store, idle}
 use Rattle.meaning.specs.Holding.{none, free, by, heldBy, naming, named}
 use Rattle.meaning.specs.Programs.{actAt}
-use Rattle.meaning.specs.Step.{perform}
+use Rattle.meaning.specs.Step.{perform, apply}
+use Rattle.meaning.specs.Schedule.{emit, ofManager}
+use Rattle.meaning.specs.Demands.{kept}
 use Rattle.meaning.proofs.Words.{same, either-way, clash, by-held, none-held, naming-once, naming-not-none, naming-not-free, naming-named, named-naming, named-below, upd-each}
-use Rattle.meaning.proofs.Invariant.{takes, gives, holdsH, holdsN, ownsP, ownsQ, kept, Holds, Facts, Agrees, Back, Inv}
+use Rattle.meaning.proofs.Invariant.{takes, gives, holdsH, holdsN, ownsP, ownsQ, Holds, Facts, Agrees, Back, Inv}
+use Rattle.meaning.proofs.ManagerView.{places, answered, due}
 use Rattle.meaning.proofs.Keeping.{p-owned, q-owned, Moves}
 
 infixr 30 _▸_
@@ -28,12 +33,22 @@ pub data Waits (s : Store) (r : Thread) : Type 0 where
   for-H : holdsH r ≡ false → holdsN r ≡ false → free (s .lock) ≡ false → Waits s r
   for-N : holdsN r ≡ false → free (s .locks (r .n)) ≡ false → Waits s r
 
+-- a line that is not the last: the answer to its operation, if it is the manager's, is owed from the last lock on
+pub record Goes (s : Store) (t : ℕ) (r r′ : Thread) (e : Effect) : Type 0 where
+  pub moves : Moves s t r r′ e
+  pub owed : due (apply s t r′ e) r′ ≡ emit (places r) (answered r (kept s (r .n))) (due s r)
+
+-- the last line: the thread is idle next, and what it answers was owed
+pub record Ends (s : Store) (t : ℕ) (r : Thread) (value : ℕ) (e : Effect) : Type 0 where
+  pub moves : Moves s t r idle e
+  pub owed : due s r ≡ ofManager (record { op = r .op; value = value } ∷ [])
+
 -- what a verdict must show of a step of thread t with record r: a fault can't
 abbrev pub Fine : Store → ℕ → Thread → Verdict → Type 0
 Fine s t r Blocked = Waits s r
 Fine s t r Fault = ⊥
-Fine s t r (Go r′ e) = Moves s t r r′ e
-Fine s t r (Done answer e) = Moves s t r idle e
+Fine s t r (Go r′ e) = Goes s t r r′ e
+Fine s t r (Done answer e) = Ends s t r answer e
 
 -- what is known where thread t stands with record r
 pub record Here (s : Store) (t : ℕ) (r : Thread) : Type 0 where

@@ -1,14 +1,16 @@
 -- The lines of read, one after the other: each has what it needs, and shows what the table says of the thread at its next line.
 -- Assumes nothing.
-use mathlib.Core.Path.{_≡_, refl, sym}
+use mathlib.Core.Path.{_≡_, refl, sym, ap}
+use mathlib.Core.List.{[], _∷_}
 use Prim.Native.Nat.{ℕ}
 use Rattle.meaning.specs.Store.{Store}
 use Rattle.meaning.specs.Holding.{free}
 use Rattle.meaning.specs.Programs.{READ}
+use Rattle.meaning.specs.Demands.{kept}
 use Rattle.meaning.proofs.Words.{either-way, naming-not-free}
-use Rattle.meaning.proofs.Invariant.{kept}
+use Rattle.meaning.proofs.ManagerView.{due}
 use Rattle.meaning.proofs.Sharing.{mapped-block-free, numbers-blocks}
-use Rattle.meaning.proofs.Lines.{for-N, Line, From, _▸_, n-held, p-held, looked-up, kept-on, facts-idle, keeping}
+use Rattle.meaning.proofs.Lines.{at, for-N, Line, From, _▸_, n-held, p-held, looked-up, kept-on, facts-idle, keeping}
 
 module _ (s : Store) (t : ℕ) where
   R1 : Line s t READ 1
@@ -42,6 +44,8 @@ module _ (s : Store) (t : ℕ) where
   R6 n c p q h H =
       let lock = n-held H refl in
       let sizes = numbers-blocks s (H .inv) in
+      let owed : due s (at READ 6 n c p q h) ≡ record { op = READ; value = c } ∷ [] =
+      ap (λ x. record { op = READ; value = x } ∷ []) (sym (H .facts .seen)) in
       rw lock (search (keeping, facts-idle, H .holds .locks, H .holds .own))
 
   pub reads : From (Line s t READ) 1 6

@@ -29,7 +29,7 @@ limits-sizes t n p d l =
     omega arith
 
 -- the fact of a row whose flag is up
-fact : (b : Bool) (A : Type 0) → b ≡ true → If b A → A
+pub fact : (b : Bool) (A : Type 0) → b ≡ true → If b A → A
 fact true A x f = f
 fact false A x f = clash x refl
 

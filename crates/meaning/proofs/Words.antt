@@ -1,6 +1,6 @@
 -- Laws of words that are 0 or a number plus one (specs/Holding), of entries of a table, and of tests.
 -- Assumes nothing.
-use mathlib.Core.Path.{_≡_, refl, sym}
+use mathlib.Core.Path.{_≡_, refl, sym, _∙_}
 use mathlib.Core.Bool.{Bool, true, false, _&&_, _||_}
 use Prim.Native.Nat.{ℕ, _+_, _-_, _<_, _≤_}
 use native.Mathlib.Omega.{arith}
@@ -22,6 +22,12 @@ either-way false f g = g refl
 
 pub clash : {A : Type 0} {b : Bool} → b ≡ true → b ≡ false → A
 clash x y = absurd (let z : _≡_ {A = ℕ} 0 1 = cc in omega arith)
+
+-- tests that imply each other are equal
+pub two-ways : (a b : Bool) → (a ≡ true → b ≡ true) → (b ≡ true → a ≡ true) → a ≡ b
+two-ways true b f g = sym (f refl)
+two-ways false true f g = g refl
+two-ways false false f g = refl
 
 pub and-left : (a b : Bool) → (a && b) ≡ true → a ≡ true
 and-left true b e = refl
@@ -79,6 +85,26 @@ nobody-free w nobody = either-way (free w) (λ f. f) (λ f. let x = held-by w f 
 pub alone-free : (t w : ℕ) → heldBy t w ≡ false → ((v : ℕ) → heldBy v w ≡ true → t ≡ v) → free w ≡ true
 alone-free t w lacks alone =
     nobody-free w (λ v. either-way (heldBy v w) (λ h. rw (← alone v h) lacks) (λ h. h))
+
+-- and what only t gets or gives up, seen where t hasn't it
+pub turned-free : (t w w′ : ℕ) → ((v : ℕ) → (t ≡ v → ⊥) → heldBy v w ≡ heldBy v w′) → heldBy t w ≡ false → heldBy t w′ ≡ true →
+    free w ≡ true
+turned-free t w w′ others lacks has =
+    alone-free t w lacks
+    (λ v h. either-way (eqb t v) (λ x. eqb-true t v x)
+    (λ x. held-once t v w′ has (sym (others v (eqb-false t v x)) ∙ h)))
+
+-- words that the same threads hold are equal
+pub held-same : (w w′ : ℕ) → ((v : ℕ) → heldBy v w′ ≡ heldBy v w) → w′ ≡ w
+held-same w w′ alike =
+    either-way (free w)
+    (λ f.
+    let z : w ≡ none = eqb-true w 0 f in
+    let y : w′ ≡ none = eqb-true w′ 0 (nobody-free w′ (λ v. alike v ∙ free-held v w f)) in
+    y ∙ sym z)
+    (λ f.
+    let x = held-by w f in
+    held-is (x .0) w′ (alike (x .0) ∙ x .1) ∙ sym (held-is (x .0) w (x .1)))
 
 -- a word that only threads below a bound hold is at most the bound
 pub held-below : (w bound : ℕ) → ((v : ℕ) → heldBy v w ≡ true → v < bound) → w ≤ bound

@@ -103,6 +103,7 @@ module _ (s : Store) (t : ℕ) where
   W16 n c p q h H =
       let lock = n-held H refl in
       let sizes = numbers-blocks s (H .inv) in
+      let left = sym (H .facts .seen) in
       rw lock (search (keeping, facts-idle, H .holds .locks, H .holds .own))
 
   pub writes : From (Line s t WRITE) 1 16

@@ -10,3 +10,4 @@ pub mod Step
 pub mod Call
 pub mod Manager
 pub mod Schedule
+pub mod Demands

@@ -1,9 +1,9 @@
 -- Schedules, what they leave and answer, and the order of last locks: 01, "The machine" and the end of "The lines".
 -- All of it is over any kind of store S with a call that replies and a way to see the store in it: stores themselves, and areas of bytes.
 use mathlib.Core.Bool.{Bool, true, false, not, cond, _&&_, _||_}
-use mathlib.Core.List.{List, [], _∷_, _++_, map}
+use mathlib.Core.List.{List, [], _∷_}
 use Prim.Native.Nat.{ℕ, zero, suc, _≤_}
-use lib.Dec.{eqb, leb}
+use lib.Dec.{eqb, ltb}
 use Rattle.meaning.specs.declared.Thread.{Thread}
 use Rattle.meaning.specs.Numbers.{WENT, FINISHED}
 use Rattle.meaning.specs.Limits.{mostWord}
@@ -45,6 +45,18 @@ abbrev pub takesLast : Store → Thread → Bool
 takesLast s r =
     eqb (r .line) (lastTake (r .op))
     || eqb (r .op) LEVEL && eqb (r .line) unmovedTake && not (moves (s .header) (s .wear) (s .blocks) (s .distance))
+
+-- it has taken the last lock of any operation like it
+abbrev pub pastLast : Thread → Bool
+pastLast r = ltb (lastTake (r .op)) (r .line)
+
+-- a levelling that has H and hasn't come to L6: H was its last lock if nothing is moved
+abbrev pub mayMove : Thread → Bool
+mayMove r = eqb (r .op) LEVEL && ltb unmovedTake (r .line) && ltb (r .line) (lastTake (r .op))
+
+-- "An open operation that has taken it has its place in the order"
+abbrev pub placed : Store → Thread → Bool
+placed s r = pastLast r || mayMove r && not (moves (s .header) (s .wear) (s .blocks) (s .distance))
 
 -- ---- schedules
 

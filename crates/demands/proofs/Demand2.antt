@@ -1,0 +1,95 @@
+-- DEMAND 2, over areas of bytes: of an area that a format left which gave WENT, and of every schedule of words, finished or not.
+--  * area-manager-answers: the atomic manager, obeying the operations in the order of their last locks, answers each thread what its
+--    reads, writes and unmaps have finished with, in order, and then at most the answer of its open operation.
+--  * area-linearizable: the schedule is linearizable as Herlihy and Wing (1990) define it: what each thread asks and is answered is what
+--    that order says, and what has finished before another operation is begun stands before it (`real-time`).
+--    How their definition is met field by field is said at the head of the crate meaning's proofs/Linearizable.
+--  * area-read-gives: a read that has finished gave the word of the last write of its number before it in that order, and 0 if an
+--    unmap came after that write or if there is none.
+--  * area-manager-holds: what a number's block holds is what the manager holds of it, wherever no writer and no unmapper has its lock;
+--    so where all threads are idle, of every number (area-manager-holds-rest).
+--  * grown-one-block-each: two numbers never share a block.
+-- The definitions are those of the crate meaning, specs/Demands and specs/Manager. Assumes nothing.
+use mathlib.Core.Path.{_≡_, sym, subst}
+use mathlib.Core.Bool.{true, false}
+use mathlib.Core.List.{List, _∷_, _++_}
+use Prim.Native.Nat.{ℕ, _<_}
+use lib.ListN.{length, getD}
+use Rattle.meaning.specs.Holding.{free, heldBy, named}
+use Rattle.meaning.specs.Programs.{READ}
+use Rattle.meaning.specs.Call.{Entry, callStore, isIdle}
+use Rattle.meaning.specs.Manager.{initial, ebmRead}
+use Rattle.meaning.specs.Schedule.{Operation, Answered, run, order, finishedBy, obeyAll, managed, ofManager}
+use Rattle.meaning.specs.Demands.{kept, leavesAlone, pending, Owed, requests, Gives, ManagerAnswers, Linearizes}
+use Rattle.meaning.proofs.ManagerAnswers.{manager-answers, manager-holds-kept, manager-holds-rest}
+use Rattle.meaning.proofs.Linearizable.{linearizable, reads-give, read-finished, one-block-each}
+use Rattle.store.specs.Area.{decode}
+use Rattle.store.specs.Calls.{callArea, Formatted, Grown}
+use Rattle.demands.specs.Demand1.{rests}
+use Rattle.demands.specs.Schedule.{AllWords}
+use Rattle.demands.proofs.Bridge.{order-decoded, begunBy-decoded, finishedBy-decoded, formatted-good, formatted-fresh, grown-inv}
+use Rattle.demands.proofs.History.{areas-follow, words-first}
+
+module _ (a : List ℕ) (f : Formatted a) (w : List Entry) (x : AllWords w) where
+  pub area-manager-answers : (u : ℕ) → ManagerAnswers callArea decode a w u
+  area-manager-answers u =
+      let z =
+      areas-follow a f w x
+      (λ h. (l : List Answered) × Owed (h .left) u l × (managed initial u (h .order) ≡ ofManager (h .finished u ++ l)))
+      (λ t n p d limits. let m = manager-answers t n p d limits w u in (m .rest-owed, m .owed, m .answers)) in
+      record { rest-owed = z .0; owed = z .1; answers = z .2 }
+
+  pub area-linearizable : Linearizes callArea decode a w
+  area-linearizable =
+      let g = formatted-good a f in
+      let L = formatted-fresh a f (λ s. Linearizes callStore (λ s. s) s w) (λ t n p d limits. linearizable t n p d limits w) in
+      record {
+        asks =
+            λ u. areas-follow a f w x
+            (λ h. requests u (h .begun u) ≡ requests u (h .order) ++ requests u (pending u (h .left)))
+            (λ t n p d limits. linearizable t n p d limits w .asks u);
+        answers = area-manager-answers;
+        real-time =
+            λ v v′ whole u i u′ i′ finished unbegun.
+            let y = words-first v v′ (subst AllWords (sym whole) x) in
+            rw (order-decoded a g w x)
+            (L .real-time v v′ whole u i u′ i′ (rw (finishedBy-decoded a g u v y) at finished)
+            (rw (begunBy-decoded a g u′ v y) at unbegun));
+      }
+
+  -- A read of thread u that stands in the order after operations l is u's request number `length (requests u l)`, counted from 0.
+  pub area-read-gives : (u : ℕ) (l : List Operation) (o : Operation) (l′ : List Operation) →
+      order callArea decode a w ≡ l ++ (o ∷ l′) → o .op ≡ READ → o .thread ≡ u →
+      length (requests u l) < length (ofManager (finishedBy callArea decode a u w)) → (none : Answered) →
+      (c : ℕ) × Gives (o .number) l c
+      × (getD (ofManager (finishedBy callArea decode a u w)) (length (requests u l)) none ≡ record { op = READ; value = c })
+  area-read-gives u l o l′ is op thread finished none = (
+    ebmRead (o .number) (obeyAll initial l),
+    reads-give (o .number) l,
+    areas-follow a f w x
+        (λ h. h .order ≡ l ++ (o ∷ l′) → length (requests u l) < length (ofManager (h .finished u)) →
+        getD (ofManager (h .finished u)) (length (requests u l)) none
+        ≡ record { op = READ; value = ebmRead (o .number) (obeyAll initial l) })
+        (λ t n p d limits is finished. read-finished t n p d limits w u l o l′ is op thread finished none) is finished,
+  )
+
+  pub area-manager-holds : (k : ℕ) →
+      ((v : ℕ) → heldBy v (decode (run callArea a w) .locks k) ≡ true → leavesAlone (decode (run callArea a w) .thread v) ≡ true) →
+      kept (decode (run callArea a w)) k ≡ ebmRead k (obeyAll initial (order callArea decode a w))
+  area-manager-holds k =
+      areas-follow a f w x
+      (λ h. ((v : ℕ) → heldBy v (h .left .locks k) ≡ true → leavesAlone (h .left .thread v) ≡ true) →
+      kept (h .left) k ≡ ebmRead k (obeyAll initial (h .order)))
+      (λ t n p d limits. manager-holds-kept t n p d limits w k)
+
+  -- and at rest of every number
+  pub area-manager-holds-rest : ((v : ℕ) → rests (run callArea a w) v ≡ true) → (k : ℕ) →
+      kept (decode (run callArea a w)) k ≡ ebmRead k (obeyAll initial (order callArea decode a w))
+  area-manager-holds-rest =
+      areas-follow a f w x
+      (λ h. ((v : ℕ) → isIdle (h .left .thread v) ≡ true) → (k : ℕ) → kept (h .left) k ≡ ebmRead k (obeyAll initial (h .order)))
+      (λ t n p d limits. manager-holds-rest t n p d limits w)
+
+pub grown-one-block-each : (a : List ℕ) → Grown a → (k k′ : ℕ) → free (decode a .map k) ≡ false → free (decode a .map k′) ≡ false →
+    (k ≡ k′ → ⊥) → named (decode a .map k) ≡ named (decode a .map k′) → ⊥
+grown-one-block-each a g = one-block-each (decode a) (grown-inv a g)

@@ -1,0 +1,137 @@
+-- What demands 2 and 3 say of a schedule w that starts from s, over any kind of store, as in Schedule: stores, and areas of bytes.
+use mathlib.Core.Path.{_≡_}
+use mathlib.Core.Bool.{Bool, true, false, not, cond, _&&_, _||_}
+use mathlib.Core.List.{List, [], _∷_, _++_, map}
+use Prim.Native.Nat.{ℕ, zero, suc, _<_, _≤_}
+use lib.Dec.{eqb}
+use lib.ListN.{length}
+use Rattle.meaning.specs.declared.Thread.{Thread}
+use Rattle.meaning.specs.Store.{Store}
+use Rattle.meaning.specs.Holding.{free, named}
+use Rattle.meaning.specs.Programs.{WRITE, READ, LEVEL}
+use Rattle.meaning.specs.Call.{Reply, Entry, isIdle}
+use Rattle.meaning.specs.Manager.{empty, initial}
+use Rattle.meaning.specs.Schedule.{Operation, operation, Answered, emit, placed, run, order, begunBy, finishedBy, serial, managed, ofManager}
+
+-- ---- what a store keeps
+
+-- what number k's block holds: 0, the empty content, where it is unmapped
+abbrev pub kept : Store → ℕ → ℕ
+kept s k = cond (free (s .map k)) empty (s .content (named (s .map k)))
+
+-- a reader or a leveller, which leave what a number's block holds
+abbrev pub leavesAlone : Thread → Bool
+leavesAlone r = eqb (r .op) LEVEL || eqb (r .op) READ
+
+-- ---- a thread's operations
+
+abbrev pub ofThread : ℕ → List Operation → List Operation
+ofThread u [] = []
+ofThread u (o ∷ l) = emit (eqb (o .thread) u) o (ofThread u l)
+
+-- which of the four each is
+abbrev pub ops : List Operation → List ℕ
+ops = map (λ o. o .op)
+
+abbrev pub answeredOps : List Answered → List ℕ
+answeredOps = map (λ x. x .op)
+
+-- the operation that thread u has begun and that has no place in the order yet: one at most
+abbrev pub pending : ℕ → Store → List Operation
+pending u s =
+    emit (not (isIdle (s .thread u)) && not (placed s (s .thread u)))
+    (operation u (s .thread u .op) (s .thread u .n) (s .thread u .c)) []
+
+-- of the operation that thread u has not finished and that has its place: which of the four it is
+abbrev pub placedOp : ℕ → Store → List ℕ
+placedOp u s = emit (placed s (s .thread u)) (s .thread u .op) []
+
+-- l is what is owed to thread u: one answer, of its open operation, if that has its place in the order
+pub data Owed (s : Store) (u : ℕ) (l : List Answered) : Type 0 where
+  none-owed : placed s (s .thread u) ≡ false → l ≡ [] → Owed s u l
+  one-owed : placed s (s .thread u) ≡ true → (v : ℕ) → l ≡ record { op = s .thread u .op; value = v } ∷ [] → Owed s u l
+
+-- ---- reads, writes and unmaps: what the manager is asked for
+
+-- of thread u's
+abbrev pub requestOf : ℕ → Operation → Bool
+requestOf u o = eqb (o .thread) u && not (eqb (o .op) LEVEL)
+
+abbrev pub requests : ℕ → List Operation → List Operation
+requests u [] = []
+requests u (o ∷ l) = emit (requestOf u o) o (requests u l)
+
+-- the place of u's request number i, counted from 0, if o is the next operation; `later j` is the place of number j after o
+abbrev pub placeFrom : Bool → ℕ → (ℕ → ℕ) → ℕ
+placeFrom true zero later = 0
+placeFrom true (suc i) later = suc (later i)
+placeFrom false i later = suc (later i)
+
+-- the place of u's request number i in a list, or the list's length where it has none
+abbrev pub place : ℕ → List Operation → ℕ → ℕ
+place u [] i = 0
+place u (o ∷ l) i = placeFrom (requestOf u o) i (place u l)
+
+-- no operation of the list passes the test
+abbrev pub Without : (Operation → Bool) → List Operation → Type 0
+Without test [] = Unit {0}
+Without test (o ∷ l) = (test o ≡ false) × Without test l
+
+abbrev pub writes : ℕ → Operation → Bool
+writes k o = eqb (o .op) WRITE && eqb (o .number) k
+
+-- a write or an unmap of k: neither a levelling nor a read
+abbrev pub changes : ℕ → Operation → Bool
+changes k o = not (eqb (o .op) LEVEL) && (not (eqb (o .op) READ) && eqb (o .number) k)
+
+-- c is what a read of number k gives after operations l: the word of the last write of k, and empty if an unmap of k came after it or
+-- if k was neither written nor unmapped
+pub data Gives (k : ℕ) (l : List Operation) : ℕ → Type 0 where
+  last-write : (before : List Operation) (o : Operation) (since : List Operation) → l ≡ before ++ (o ∷ since) → writes k o ≡ true →
+      Without (changes k) since → Gives k l (o .word)
+  last-unmap : (before : List Operation) (o : Operation) (since : List Operation) → l ≡ before ++ (o ∷ since) → changes k o ≡ true →
+      writes k o ≡ false → Without (changes k) since → Gives k l empty
+  untouched : Without (changes k) l → Gives k l empty
+
+-- ---- what is said
+
+module _ {S : Type 0} (call : S → Entry → Reply S) (seen : S → Store) (s : S) (w : List Entry) where
+  -- each once: thread u's operations in the order, and then the one that has no place yet, are those that it has begun; of those in the
+  -- order all are finished, but for an open one that has its place
+  pub record EachOnce (u : ℕ) : Type 0 where
+    pub begun-once : begunBy call seen s u w ≡ ofThread u (order call seen s w) ++ pending u (seen (run call s w))
+    pub finished-once : ops (ofThread u (order call seen s w)) ≡
+        answeredOps (finishedBy call seen s u w) ++ placedOp u (seen (run call s w))
+
+  -- demand 2: the manager's answers to thread u, in the order of last locks, are what u has finished with and what is owed to it
+  pub record ManagerAnswers (u : ℕ) : Type 0 where
+    pub rest-owed : List Answered
+    pub owed : Owed (seen (run call s w)) u rest-owed
+    pub answers : managed initial u (order call seen s w) ≡ ofManager (finishedBy call seen s u w ++ rest-owed)
+
+  -- the order of last locks is a linearization of the schedule
+  pub record Linearizes : Type 0 where
+    -- L1: each thread's invocations, but for one that pends, are its operations in the order
+    pub asks : (u : ℕ) → requests u (begunBy call seen s u w) ≡
+        requests u (order call seen s w) ++ requests u (pending u (seen (run call s w)))
+    -- L1: the manager's answers to them are its responses, and one more at most, that is owed
+    pub answers : (u : ℕ) → ManagerAnswers u
+    -- L2: what has finished in the first part v of the schedule stands before what has not begun there
+    pub real-time : (v v′ : List Entry) → v ++ v′ ≡ w → (u i u′ i′ : ℕ) → i < length (ofManager (finishedBy call seen s u v)) →
+        length (requests u′ (begunBy call seen s u′ v)) ≤ i′ →
+        place u (order call seen s w) i < place u′ (order call seen s w) i′
+
+  -- the operations of the order of last locks, run whole one after the other
+  abbrev pub one-by-one : List Entry
+  one-by-one = serial (order call seen s w)
+
+  -- demand 3, second half: they leave the same, and each thread's operations answer the same
+  pub record OneAtATime : Type 0 where
+    pub leaves : run call s w ≡ run call s one-by-one
+    pub answers : (u : ℕ) → finishedBy call seen s u w ≡ finishedBy call seen s u one-by-one
+
+  -- finished or not: what thread u has finished with are the first of its answers there, and what is owed to it is the rest
+  pub record AnswersSoFar (u : ℕ) : Type 0 where
+    pub rest-owed : List Answered
+    pub owed : Owed (seen (run call s w)) u rest-owed
+    pub answers : finishedBy call seen s u one-by-one ≡ finishedBy call seen s u w ++ rest-owed

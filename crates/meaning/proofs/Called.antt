@@ -19,7 +19,7 @@ use Rattle.meaning.specs.Call.{Reply, Entry, begin, step, callStore, rep
 use Rattle.meaning.proofs.Words.{either-way}
 use Rattle.meaning.proofs.Invariant.{Inv}
 use Rattle.meaning.proofs.Keeping.{Moves}
-use Rattle.meaning.proofs.Lines.{Fine, Goes, Ends}
+use Rattle.meaning.proofs.Lines.{Fine, GoesOn, Ends}
 use Rattle.meaning.proofs.EveryLine.{fine, begins}
 
 abbrev pub replied : ℕ → ℕ → Store → Reply Store
@@ -30,7 +30,7 @@ pub data Called (s : Store) : Entry → Type 0 where
       callStore s e ≡ replied number 0 s → Called s e
   opens : (t op n c : ℕ) → t < s .threads → isIdle (s .thread t) ≡ true → Moves s t (s .thread t) (begun op n c) nothing →
       callStore s (begin t op n c) ≡ replied WENT 0 (apply s t (begun op n c) nothing) → Called s (begin t op n c)
-  goes : (t : ℕ) (r′ : Thread) (e : Effect) → t < s .threads → isIdle (s .thread t) ≡ false → Goes s t (s .thread t) r′ e →
+  goes : (t : ℕ) (r′ : Thread) (e : Effect) → t < s .threads → isIdle (s .thread t) ≡ false → GoesOn s t (s .thread t) r′ e →
       callStore s (step t) ≡ replied WENT 0 (apply s t r′ e) → Called s (step t)
   ends : (t value : ℕ) (e : Effect) → t < s .threads → isIdle (s .thread t) ≡ false → Ends s t (s .thread t) value e →
       callStore s (step t) ≡ replied FINISHED value (apply s t idle e) → Called s (step t)

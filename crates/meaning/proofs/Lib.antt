@@ -26,7 +26,7 @@ pub mod Replay
 pub mod LastLock
 pub mod OneAtATime
 pub mod EachOnce
-pub mod ManagerOrder
+pub mod Requests
 pub mod Linearizable
 pub mod ManagerSamples
 pub mod OneAtATimeSamples

@@ -12,8 +12,8 @@
 --  * equivalent means that each thread sees the same in both: the same invocations (`asks`) and the same responses (`answers`), in
 --    the same order;
 --  * <H is that one operation has its response before the other has its invocation. The first is then before the other in S
---    (`real-time`). An operation is named by its thread and by how many reads, writes and unmaps of that thread came before it.
---    A place past the end of S is that of an operation that is not in S.
+--    (`real-time`). An operation is named by its thread and by how many reads, writes and unmaps of that thread came before it; it is
+--    what stands at its place (`place-holds` of Requests). A place past the end of S is that of an operation that is not in S.
 --
 -- WHAT A READ GIVES. A read of number k that stands in S after operations l finishes with what the manager reads at k after l
 -- (`read-finished`; `read-answered` says it of the manager alone). That is the word of the last write of k in l, and empty, 0, if an
@@ -48,7 +48,7 @@ use Rattle.meaning.proofs.ManagerView.{owing}
 use Rattle.meaning.proofs.Schedules.{order-append}
 use Rattle.meaning.proofs.ManagerLaws.{obey-reads, obeyAll-append}
 use Rattle.meaning.proofs.ManagerAnswers.{manager-owing, manager-answers}
-use Rattle.meaning.proofs.ManagerOrder.{requests-append, requests-ofThread, managed-length, place-first, place-second}
+use Rattle.meaning.proofs.Requests.{requests-append, requests-ofThread, managed-length, place-first, place-second}
 use Rattle.meaning.proofs.EachOnce.{each-once}
 
 -- ---- what the manager reads

@@ -34,7 +34,7 @@ pub data Waits (s : Store) (r : Thread) : Type 0 where
   for-N : holdsN r ≡ false → free (s .locks (r .n)) ≡ false → Waits s r
 
 -- a line that is not the last: the answer to its operation, if it is the manager's, is owed from the last lock on
-pub record Goes (s : Store) (t : ℕ) (r r′ : Thread) (e : Effect) : Type 0 where
+pub record GoesOn (s : Store) (t : ℕ) (r r′ : Thread) (e : Effect) : Type 0 where
   pub moves : Moves s t r r′ e
   pub owed : due (apply s t r′ e) r′ ≡ emit (places r) (answered r (kept s (r .n))) (due s r)
 
@@ -47,7 +47,7 @@ pub record Ends (s : Store) (t : ℕ) (r : Thread) (value : ℕ) (e : Effect) : 
 abbrev pub Fine : Store → ℕ → Thread → Verdict → Type 0
 Fine s t r Blocked = Waits s r
 Fine s t r Fault = ⊥
-Fine s t r (Go r′ e) = Goes s t r r′ e
+Fine s t r (Go r′ e) = GoesOn s t r r′ e
 Fine s t r (Done answer e) = Ends s t r answer e
 
 -- what is known where thread t stands with record r

@@ -26,7 +26,7 @@ use Rattle.meaning.proofs.Words.{same, either-way, clash, or-way, two-w
 use Rattle.meaning.proofs.Invariant.{takesN, Stands, Inv}
 use Rattle.meaning.proofs.Keeping.{Moves, up}
 use Rattle.meaning.proofs.Sharing.{fact}
-use Rattle.meaning.proofs.Lines.{Goes}
+use Rattle.meaning.proofs.Lines.{GoesOn}
 use Rattle.meaning.proofs.EveryLine.{idle-is}
 use Rattle.meaning.proofs.Demand1.{inv-fresh, inv-call, inv-run}
 use Rattle.meaning.proofs.ManagerView.{leaves, future, owes, answered, due, owing}
@@ -107,7 +107,7 @@ module _ (s : Store) (I : Inv s) (m : Manager) (M : Matches s m) where
       (λ y. rw y (operation-reads t (r .op) (r .n) (r .c) x m k)) (λ y. rw y)))
 
   -- what it adds to what is owed is what the manager answers
-  placed-answers : (t : ℕ) → isIdle (s .thread t) ≡ false → (r′ : Thread) (e : Effect) → Goes s t (s .thread t) r′ e →
+  placed-answers : (t : ℕ) → isIdle (s .thread t) ≡ false → (r′ : Thread) (e : Effect) → GoesOn s t (s .thread t) r′ e →
       (l : List Operation) → due s (s .thread t) ++ managed m t (emit (last t) (mine t) l) ≡
       due (apply s t r′ e) r′ ++ managed (obeyAll m (emit (last t) (mine t) [])) t l
   placed-answers t busy r′ e g l =

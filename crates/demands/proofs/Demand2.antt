@@ -4,6 +4,7 @@
 --  * area-linearizable: the schedule is linearizable as Herlihy and Wing (1990) define it: what each thread asks and is answered is what
 --    that order says, and what has finished before another operation is begun stands before it (`real-time`).
 --    How their definition is met field by field is said at the head of the crate meaning's proofs/Linearizable.
+--  * area-real-time: that last part by itself. Request i of thread u has finished within v, request i′ of thread u′ has not begun there.
 --  * area-read-gives: a read that has finished gave the word of the last write of its number before it in that order, and 0 if an
 --    unmap came after that write or if there is none.
 --  * area-manager-holds: what a number's block holds is what the manager holds of it, wherever no writer and no unmapper has its lock;
@@ -13,14 +14,14 @@
 use mathlib.Core.Path.{_≡_, sym, subst}
 use mathlib.Core.Bool.{true, false}
 use mathlib.Core.List.{List, _∷_, _++_}
-use Prim.Native.Nat.{ℕ, _<_}
+use Prim.Native.Nat.{ℕ, _<_, _≤_}
 use lib.ListN.{length, getD}
 use Rattle.meaning.specs.Holding.{free, heldBy, named}
 use Rattle.meaning.specs.Programs.{READ}
 use Rattle.meaning.specs.Call.{Entry, callStore, isIdle}
 use Rattle.meaning.specs.Manager.{initial, ebmRead}
-use Rattle.meaning.specs.Schedule.{Operation, Answered, run, order, finishedBy, obeyAll, managed, ofManager}
-use Rattle.meaning.specs.Demands.{kept, leavesAlone, pending, Owed, requests, Gives, ManagerAnswers, Linearizes}
+use Rattle.meaning.specs.Schedule.{Operation, Answered, run, order, begunBy, finishedBy, obeyAll, managed, ofManager}
+use Rattle.meaning.specs.Demands.{kept, leavesAlone, pending, Owed, requests, place, Gives, ManagerAnswers, Linearizes}
 use Rattle.meaning.proofs.ManagerAnswers.{manager-answers, manager-holds-kept, manager-holds-rest}
 use Rattle.meaning.proofs.Linearizable.{linearizable, reads-give, read-finished, one-block-each}
 use Rattle.store.specs.Area.{decode}
@@ -58,6 +59,13 @@ module _ (a : List ℕ) (f : Formatted a) (w : List Entry) (x : AllWords w) wher
       }
 
   -- A read of thread u that stands in the order after operations l is u's request number `length (requests u l)`, counted from 0.
+
+  pub area-real-time :
+      (v v′ : List Entry) → v ++ v′ ≡ w → (u i u′ i′ : ℕ) → i < length (ofManager (finishedBy callArea decode a u v)) →
+      length (requests u′ (begunBy callArea decode a u′ v)) ≤ i′ →
+      place u (order callArea decode a w) i < place u′ (order callArea decode a w) i′
+  area-real-time = area-linearizable .real-time
+
   pub area-read-gives : (u : ℕ) (l : List Operation) (o : Operation) (l′ : List Operation) →
       order callArea decode a w ≡ l ++ (o ∷ l′) → o .op ≡ READ → o .thread ≡ u →
       length (requests u l) < length (ofManager (finishedBy callArea decode a u w)) → (none : Answered) →

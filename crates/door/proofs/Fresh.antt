@@ -2,13 +2,13 @@
 use mathlib.Core.Path.{_≡_, refl, _∙_, sym, ap, fun-ext}
 use mathlib.Core.Bool.{Bool, true, false, cond}
 use mathlib.Core.List.{List}
-use Prim.Native.Nat.{ℕ, zero, suc, _+_, _*_, _<_, _≤_}
+use Prim.Native.Nat.{ℕ, zero, suc, _+_, _*_, _<_}
 use native.Mathlib.Omega.{arith}
 use lib.Dec.{eqb, ltb}
 use lib.ListN.{getD, length, replicate, length-replicate}
 use borrow.Author.Tests.{ne-eqb}
 use Rattle.meaning.specs.Table.{upd, below}
-use Rattle.meaning.specs.Store.{Store, idle, fresh}
+use Rattle.meaning.specs.Store.{idle, fresh}
 use Rattle.store.specs.Layout.{tAt, nAt, pAt, dAt, threadsAt, threadWords, mapAt, locksAt, blocksAt, blockWords, size}
 use Rattle.store.specs.Area.{Bytes, word, putWord, threadFrom, column, storeOf, encode, decode}
 use Rattle.store.proofs.Words.{word-put, length-putWord, bytes-put}

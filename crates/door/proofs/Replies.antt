@@ -1,9 +1,9 @@
 -- What each call replies, case by case, in the order of its refusals; and what a well-formed area gives the functions that it is handed
 -- to. Assumes nothing.
 use mathlib.Core.Path.{_≡_, refl, _∙_, sym, ap, subst}
-use mathlib.Core.Bool.{Bool, true, false, cond, not, _&&_, _||_}
+use mathlib.Core.Bool.{Bool, true, false, not, _&&_, _||_}
 use mathlib.Core.List.{List}
-use mathlib.Core.Logic.{_⊎_, inl, inr}
+use mathlib.Core.Logic.{inl, inr}
 use Prim.Native.Nat.{ℕ, zero, suc, _+_, _*_, _<_, _≤_}
 use native.Mathlib.Omega.{arith}
 use lib.Dec.{eqb, ltb, leb, leb·suc-suc}
@@ -12,8 +12,8 @@ use borrow.Author.Tests.{lt-ltb, le-ltb, lt-leb, le-leb, eq-eqb, ne-eqb, ltb-tru
 use Rattle.meaning.specs.declared.Thread.{Thread}
 use Rattle.meaning.specs.declared.Effect.{Effect}
 use Rattle.meaning.specs.declared.Verdict.{Verdict}
-use Rattle.meaning.specs.declared.Verdict.the-variants.{Blocked, Fault, Go, Done}
-use Rattle.meaning.specs.Numbers.{WENT, FINISHED, BLOCKED, SHAPE, THREAD, BUSY, IDLE, LOGICAL, OPERATION, FAULT, LIMITS, packed}
+use Rattle.meaning.specs.declared.Verdict.the-variants.{Go, Done}
+use Rattle.meaning.specs.Numbers.{WENT, SHAPE, THREAD, BUSY, IDLE, LOGICAL, OPERATION, LIMITS, packed}
 use Rattle.meaning.specs.Limits.{within, inLimits}
 use Rattle.meaning.specs.Store.{Store, idle, fresh}
 use Rattle.meaning.specs.Programs.{WRITE, LEVEL, actAt, lastLine}

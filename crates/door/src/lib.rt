@@ -1,11 +1,10 @@
 // The C door: format, begin and step on numbers and an area of bytes. Each refuses in the order of document 01's table and otherwise
 // does what its definition says (specs/Means.antt); the result is number times 4,294,967,296 plus value. No function has a `requires`.
 ghost use mathlib.Core.Path.{_≡_};
-ghost use Prim.Native.Nat.{ℕ, _+_, _*_, _<_, _≤_};
-ghost use lib.ListN.{length, getD, replicate};
+ghost use Prim.Native.Nat.{_+_, _*_, _<_, _≤_};
+ghost use lib.ListN.{length, replicate};
 ghost use Rattle.meaning.specs.Numbers.{packed};
 ghost use Rattle.meaning.specs.Store.{idle as idleOf};
-ghost use Rattle.meaning.specs.Limits.{mostWord};
 ghost use Rattle.meaning.specs.Call.{begun as begunOf, storedN, storedC};
 ghost use Rattle.store.specs.Layout.{tAt, nAt, pAt};
 ghost use Rattle.store.specs.Area.{word};

@@ -6,10 +6,10 @@ use native.Mathlib.Numerals.{add-one}
 use native.Mathlib.Decide.{decLt}
 use native.Mathlib.Omega.{arith}
 use lib.Dec.{eqb, ltb}
-use borrow.Author.Tests.{eq-eqb, ne-eqb, lt-ltb, le-ltb}
+use borrow.Author.Tests.{ne-eqb, lt-ltb, le-ltb}
 use Rattle.meaning.specs.declared.Found.{Found}
 use Rattle.meaning.specs.declared.Found.the-variants.{Nobody, At}
-use Rattle.meaning.specs.Choosing.{lowestNext, lowestFree, challenge, best, fromBlock}
+use Rattle.meaning.specs.Choosing.{lowestFree, challenge, best, fromBlock}
 use Rattle.meaning.specs.declared.Thread.{Thread}
 use Rattle.meaning.specs.Store.{Store}
 use Rattle.meaning.specs.Step.{choosing}

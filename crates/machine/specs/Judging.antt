@@ -1,5 +1,4 @@
 -- What the functions that judge a step take for granted, and the store that they are given as words and arrays.
-use mathlib.Core.List.{List}
 use mathlib.Core.Path.{_≡_}
 use mathlib.Core.Bool.{Bool}
 use lib.Dec.{ltb}

@@ -1,7 +1,7 @@
 -- What doing a verdict asks of an area and what it leaves.
 use mathlib.Core.List.{List}
 use mathlib.Core.Path.{_≡_}
-use Prim.Native.Nat.{ℕ, _<_}
+use Prim.Native.Nat.{ℕ}
 use Rattle.meaning.specs.declared.Word.{Word}
 use Rattle.meaning.specs.declared.Word.the-variants.{Stay}
 use Rattle.meaning.specs.declared.Entry.{Entry}

@@ -2,9 +2,7 @@
 // The definitions are those of the crate meaning, specs/Choosing.antt and specs/Step.antt.
 ghost use mathlib.Core.Path.{_≡_};
 ghost use mathlib.Core.Bool.{cond};
-ghost use Prim.Native.Nat.{ℕ, _+_, _<_, _≤_};
-ghost use lib.Dec.{ltb};
-ghost use Rattle.meaning.specs.declared.Thread.{Thread as ThreadOf};
+ghost use Prim.Native.Nat.{_+_, _<_, _≤_};
 ghost use Rattle.meaning.specs.Store.{Store as StoreOf};
 ghost use Rattle.meaning.specs.Limits.{mostThreads, mostNumbers, mostBlocks, mostWord};
 ghost use Rattle.meaning.specs.Holding.{free, named as namedOf};

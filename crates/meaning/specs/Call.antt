@@ -1,8 +1,8 @@
 -- begin and step on a store, as 01, "Numbers given back", orders their refusals. What a call comes to is an outcome; a reply is its
 -- number, its value and what it left, of a store or of an area of bytes: a refused or blocked call leaves what it was given.
-use mathlib.Core.Bool.{Bool, not, cond, _&&_, _||_}
-use Prim.Native.Nat.{ℕ, _<_, _≤_}
-use lib.Dec.{eqb, ltb, leb}
+use mathlib.Core.Bool.{Bool, not, cond, _||_}
+use Prim.Native.Nat.{ℕ}
+use lib.Dec.{eqb, ltb}
 use Rattle.meaning.specs.declared.Thread.{Thread}
 use Rattle.meaning.specs.declared.Verdict.{Verdict}
 use Rattle.meaning.specs.declared.Verdict.the-variants.{Blocked, Fault, Go, Done}

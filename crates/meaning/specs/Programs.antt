@@ -1,9 +1,7 @@
 -- 01, "The lines": the four programs, a line each with its label. What an act does is `perform` of Step.
-use mathlib.Core.Bool.{Bool, cond}
 use mathlib.Core.List.{List, [], _∷_}
 use Prim.Native.Nat.{ℕ, _-_}
 use lib.ListN.{getD, length}
-use lib.Dec.{eqb}
 use Rattle.meaning.specs.declared.Reg.the-variants.{P, Q}
 use Rattle.meaning.specs.declared.Answer.the-variants.{Zero, C, Moved}
 use Rattle.meaning.specs.declared.Act.{Act}

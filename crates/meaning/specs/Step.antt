@@ -2,7 +2,7 @@
 -- `apply` does it. So a step that is refused or blocked does nothing.
 use mathlib.Core.Bool.{Bool, not, cond, _&&_}
 use Prim.Native.Nat.{ℕ, _+_}
-use lib.Dec.{eqb, ltb}
+use lib.Dec.{ltb}
 use Rattle.meaning.specs.declared.Reg.{Reg}
 use Rattle.meaning.specs.declared.Reg.the-variants.{P, Q}
 use Rattle.meaning.specs.declared.Answer.{Answer}

@@ -8,10 +8,9 @@ use native.Mathlib.Nat.{add-zero, zero-add, mul-zero, mul-suc, one-mul}
 use native.Mathlib.Numerals.{towards-suc}
 use native.Mathlib.Omega.{arith}
 use lib.Dec.{ltb}
-use lib.ListN.{getD, length, drop, length-append, List·getD-append}
+use lib.ListN.{getD, length, length-append, List·getD-append}
 use lib.Seq.{getD-append-add}
 use borrow.Author.Tests.{lt-ltb, ltb-true, ltb-false}
-use Rattle.meaning.specs.declared.Thread.{Thread}
 use Rattle.meaning.specs.Table.{below}
 use Rattle.meaning.specs.Store.{Store, idle}
 use Rattle.store.specs.Layout.{tAt, nAt, pAt, dAt, lockAt, ownerAt, threadsAt, threadWords, mapAt, locksAt, blocksAt, blockWords, areaWords, size}

@@ -1,16 +1,16 @@
 -- What decoding a live area gives: its sizes are those of `Live`, and a test of all entries of a table is a test of the area's words.
 -- Assumes nothing.
 use mathlib.Core.Path.{_≡_, _∙_, sym, ap}
-use mathlib.Core.Bool.{Bool, true, false, cond, _&&_}
+use mathlib.Core.Bool.{Bool, _&&_}
 use mathlib.Core.List.{List}
-use Prim.Native.Nat.{ℕ, _+_, _*_, _<_}
+use Prim.Native.Nat.{ℕ, _+_, _*_}
 use lib.Dec.{leb, ltb}
 use borrow.Author.Tests.{lt-ltb}
 use Rattle.meaning.specs.declared.Thread.{Thread}
 use Rattle.meaning.specs.Table.{below, every}
 use Rattle.meaning.specs.Store.{idle}
 use Rattle.store.specs.Layout.{lockAt, ownerAt, threadsAt, threadWords, mapAt, locksAt, blocksAt, blockWords}
-use Rattle.store.specs.Area.{word, threadFrom, column, storeOf, decode, soundThread, inBounds}
+use Rattle.store.specs.Area.{word, threadFrom, storeOf, decode, soundThread, inBounds}
 use Rattle.store.specs.Live.{Live}
 use Rattle.store.proofs.Every.{every-cong}
 

@@ -3,7 +3,7 @@
 use mathlib.Core.Path.{_≡_, refl, _∙_, sym, ap, fun-ext}
 use mathlib.Core.Bool.{Bool, true, false, cond}
 use mathlib.Core.List.{List}
-use Prim.Native.Nat.{ℕ, zero, suc, _+_, _*_, _<_, _≤_}
+use Prim.Native.Nat.{ℕ, _+_, _*_, _<_, _≤_}
 use native.Mathlib.Omega.{arith}
 use lib.Dec.{eqb, ltb}
 use borrow.Author.Tests.{lt-ltb, ltb-true, eq-eqb, ne-eqb, eqb-true, eqb-false}
@@ -170,9 +170,6 @@ put-clear : (at : ℕ → ℕ) (w v i : ℕ) → Clear w (w + 1) i → upd at w 
 put-clear at w v i c = upd-other at w v i (λ e. c (omega arith) (omega arith))
 
 -- ---- the store with an effect
-
-pub apply-made : (s : Store) (t : ℕ) (r : Thread) (e : Effect) → apply s t r e ≡ made (apply s t r nothing) e
-apply-made s t r e = refl
 
 module _ (at : ℕ → ℕ) (t n p v : ℕ) where
   abbrev old : Store

@@ -1,6 +1,6 @@
 -- The store area: 01, "Sizes and the store area". An area is a list of bytes; its words, the store that it holds (`decode`), the area
 -- of a store (`encode`), and when it is well formed.
-use mathlib.Core.Bool.{Bool, not, cond, _&&_}
+use mathlib.Core.Bool.{Bool, cond, _&&_}
 use mathlib.Core.List.{List, [], _∷_, _++_}
 use Prim.Native.Nat.{ℕ, zero, suc, _+_, _*_, _/_, _%_, _<_}
 use lib.ListN.{getD, set, length}

@@ -9,7 +9,7 @@ use lib.Dec.{eqb}
 use Rattle.meaning.specs.Numbers.{WENT, SHAPE, LIMITS}
 use Rattle.meaning.specs.Limits.{inLimits}
 use Rattle.meaning.specs.Store.{fresh}
-use Rattle.meaning.specs.Call.{Reply, Outcome, left, reply, check, Entry, begin, step, calling}
+use Rattle.meaning.specs.Call.{Reply, left, reply, check, Entry, begin, step, calling}
 use Rattle.meaning.specs.Schedule as schedule
 use Rattle.store.specs.Layout.{size}
 use Rattle.store.specs.Area.{Bytes, encode, decode, wellFormed}

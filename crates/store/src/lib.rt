@@ -1,14 +1,13 @@
 // The store area: reading and writing its words, the test that it is well formed, the working store and its filling, and a setter for
 // each table. What an area means stands in specs/Area.antt; every contract below is an equality with a definition there.
 ghost use mathlib.Core.Path.{_≡_};
-ghost use mathlib.Core.List.{List, _∷_, []};
-ghost use Prim.Native.Nat.{ℕ, _+_, _*_, _<_, _≤_};
-ghost use lib.ListN.{length, replicate};
+ghost use Prim.Native.Nat.{_+_, _*_, _<_, _≤_};
+ghost use lib.ListN.{length};
 ghost use lib.Dec.{leb};
 ghost use Rattle.meaning.specs.Table.{every};
-ghost use Rattle.meaning.specs.Limits.{least, mostThreads, mostNumbers, mostBlocks, mostDistance, inLimits};
+ghost use Rattle.meaning.specs.Limits.{least, mostThreads, mostNumbers, mostBlocks, inLimits};
 ghost use Rattle.meaning.specs.Programs.{lastLine};
-ghost use Rattle.store.specs.Layout.{lockAt, ownerAt, threadsAt, threadWords, mapAt, locksAt, blocksAt, blockWords, size};
+ghost use Rattle.store.specs.Layout.{threadsAt, threadWords, mapAt, locksAt, blocksAt, size};
 ghost use Rattle.store.specs.Area.{word, putWord, putThread, putBecome, putEntry, threadFrom, column, decode, soundThread, inBounds, wellFormed};
 ghost use Rattle.store.specs.Live.{Live, Within, EntryWithin, BecomeFits, EntryFits, Small, Reaches, Fills, table, view, zeroFilled};
 use meaning::Entry;

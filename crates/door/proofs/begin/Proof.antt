@@ -1,13 +1,12 @@
 -- `door::begin` meets its contract: a refusal after the other, and then the record that begin writes. Assumes nothing.
 use mathlib.Core.Path.{_≡_, refl, _∙_, sym, ap}
 use mathlib.Core.Bool.{true}
-use Prim.Native.Nat.{ℕ, _<_}
+use Prim.Native.Nat.{_<_}
 use native.Mathlib.Omega.{arith}
 use borrow.Author.Needs.{needs}
 use borrow.Author.Tests.{not-true, not-false}
 use Rattle.meaning.specs.Numbers.{WENT, SHAPE, THREAD, BUSY, OPERATION, LOGICAL}
 use Rattle.meaning.specs.Limits.{within}
-use Rattle.meaning.specs.Programs.{WRITE, LEVEL}
 use Rattle.meaning.specs.Call.{begin}
 use Rattle.store.specs.Layout.{tAt}
 use Rattle.store.specs.Area.{word, wellFormed}

@@ -1,5 +1,5 @@
 -- `machine::judge` meets its contract: `perform` at the loaded store, which is the decoded one. Assumes nothing.
-use mathlib.Core.Path.{_≡_, refl, _∙_, ap, ap₂}
+use mathlib.Core.Path.{refl, _∙_, ap, ap₂}
 use native.Mathlib.Omega.{arith}
 use borrow.Author.Needs.{needs}
 use Rattle.meaning.specs.Step.{perform}

@@ -1,6 +1,5 @@
 -- `machine::perform` meets its contract: an answer an act, from what its parts ensure and what `Sees` says of the words. Assumes nothing.
 use mathlib.Core.Path.{_∙_, ap₂}
-use Prim.Native.Nat.{_<_}
 use native.Mathlib.Omega.{arith}
 use borrow.Author.Needs.{needs}
 use Rattle.meaning.specs.Limits.{mostBlocks}

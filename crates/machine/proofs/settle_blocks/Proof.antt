@@ -1,6 +1,6 @@
 -- `machine::settle_blocks` meets its contract, a setter after the other. Assumes nothing.
 use mathlib.Core.Path.{ap}
-use Prim.Native.Nat.{ℕ, _+_}
+use Prim.Native.Nat.{_+_}
 use native.Mathlib.Omega.{arith}
 use borrow.Author.Needs.{needs}
 use Rattle.store.specs.Layout.{blocksAt, blockWords}

@@ -1,5 +1,4 @@
 -- `machine::settle_numbers` meets its contract, a setter after the other. Assumes nothing.
-use Prim.Native.Nat.{ℕ}
 use borrow.Author.Needs.{needs}
 use Rattle.store.specs.Layout.{mapAt, locksAt}
 use Rattle.store.specs.Area.{decode}

@@ -5,7 +5,7 @@ use native.Mathlib.Omega.{arith}
 use borrow.Author.Needs.{needs}
 use Rattle.meaning.specs.Limits.{mostThreads, mostNumbers, mostBlocks}
 use Rattle.store.specs.Layout.{threadWords}
-use Rattle.store.specs.Live.{Live, zeroFilled}
+use Rattle.store.specs.Live.{Live}
 use Rattle.store.proofs.Filling.{fills, view-loaded}
 use Rattle.store.proofs.load.Statement.{statement}
 use Rattle.store.proofs.load.Tie as tie

@@ -1,19 +1,23 @@
 -- The searches among the first k blocks, one block more at a time: what their loops go by. Assumes nothing.
 use mathlib.Core.Path.{_≡_, refl, _∙_, sym, ap}
-use mathlib.Core.Bool.{Bool, true, false, cond}
-use Prim.Native.Nat.{ℕ, zero, suc, _+_, _<_, _≤_}
+use mathlib.Core.Bool.{Bool, true, false, not, cond}
+use Prim.Native.Nat.{ℕ, zero, suc, _+_, _-_, _<_, _≤_}
 use native.Mathlib.Numerals.{add-one}
 use native.Mathlib.Decide.{decLt}
 use native.Mathlib.Omega.{arith}
 use lib.Dec.{eqb, ltb}
-use borrow.Author.Tests.{ne-eqb, lt-ltb, le-ltb}
+use borrow.Author.Tests.{ne-eqb, lt-ltb, le-ltb, ltb-true, ltb-false, not-true, not-false}
 use Rattle.meaning.specs.declared.Found.{Found}
 use Rattle.meaning.specs.declared.Found.the-variants.{Nobody, At}
-use Rattle.meaning.specs.Choosing.{lowestFree, challenge, best, fromBlock}
+use Rattle.meaning.specs.Choosing.{lowestFree, challenge, best}
 use Rattle.meaning.specs.declared.Thread.{Thread}
+use Rattle.meaning.specs.declared.Reg.{Reg}
+use Rattle.meaning.specs.declared.Reg.the-variants.{P, Q}
+use Rattle.meaning.specs.Limits.{mostBlocks, mostWord}
+use Rattle.meaning.specs.Holding.{free}
 use Rattle.meaning.specs.Store.{Store}
 use Rattle.meaning.specs.Step.{choosing}
-use Rattle.machine.specs.Judging.{placeOf, chosenBy}
+use Rattle.machine.specs.Judging.{placeOf, weightOf, soughtBy, chosenBy}
 
 -- ---- the lowest free block
 
@@ -49,51 +53,115 @@ best-below eligible beats (suc n) room h p =
     kept true Nobody q = omega arith
     kept true (At m) q = picked (beats n m) m q
 
--- a test against the block that was found, where one was
-challenge-place :
-    (b : Bool) (beats : ℕ → ℕ → Bool) (k : ℕ) (f : Found) → challenge b (λ _ _. beats k (placeOf f)) k f ≡ challenge b beats k f
-challenge-place false beats k f = refl
-challenge-place true beats k Nobody = refl
-challenge-place true beats k (At m) = refl
+-- ---- a search by weight
 
--- a loop that has found the best of the first k
-pub record Best (eligible : ℕ → Bool) (beats : ℕ → ℕ → Bool) (n k : ℕ) (f : Found) : Type 0 where
-  pub most : k ≤ n
-  pub found : f ≡ best eligible beats k
+-- which blocks are in question in the search for a register, and which of two beats the other
+abbrev eligible : Reg → (ℕ → ℕ) → ℕ → Bool
+eligible P header k = not (free (header k))
+eligible Q header k = free (header k)
 
-pub best-none : (eligible : ℕ → Bool) (beats : ℕ → ℕ → Bool) (n : ℕ) → Best eligible beats n 0 Nobody
-best-none eligible beats n = record { most = omega arith; found = refl }
+abbrev beats : Reg → (ℕ → ℕ) → ℕ → ℕ → Bool
+beats P wear k m = ltb (wear k) (wear m)
+beats Q wear k m = ltb (wear m) (wear k)
 
-pub best-place : {eligible : ℕ → Bool} {beats : ℕ → ℕ → Bool} {n k : ℕ} {f : Found} → Best eligible beats n k f → n ≤ 512 → placeOf f < 512
-best-place {eligible} {beats} {n} {k} b h = rw (b .found) (best-below eligible beats k 512 (omega (arith, b .most)) (omega arith))
+abbrev pub weighing : Reg → (ℕ → ℕ) → (ℕ → ℕ) → ℕ → ℕ
+weighing b header wear k = weightOf b (header k) (wear k)
 
-pub best-more :
-    {eligible : ℕ → Bool} {beats : ℕ → ℕ → Bool} {n k : ℕ} {f g : Found} (p : ℕ) → Best eligible beats n k f → k < n → p ≡ placeOf f →
-    g ≡ challenge (eligible k) (λ _ _. beats k p) k f → Best eligible beats n (k + 1) g
-best-more {eligible} {beats} {n} {k} {f} {g} p b h q e =
+-- what a loop has found of the blocks passed: nobody, or the first of the heaviest, with its weight
+pub data Held (weight : ℕ → ℕ) : Found → ℕ → ℕ → Type 0 where
+  nobody : (at : ℕ) → Held weight Nobody at 0
+  somebody : (m : ℕ) → 0 < weight m → Held weight (At m) m (weight m)
+
+-- weights that tell which blocks are in question, and which of two beats the other
+pub record Weighs (eligible : ℕ → Bool) (beats : ℕ → ℕ → Bool) (weight : ℕ → ℕ) (k : ℕ) : Type 0 where
+  pub light : eligible k ≡ false → weight k ≡ 0
+  pub heavy : eligible k ≡ true → 0 < weight k
+  pub heavier : (m : ℕ) → 0 < weight k → 0 < weight m → beats k m ≡ ltb (weight m) (weight k)
+
+-- one block more
+pub held-more :
+    {eligible : ℕ → Bool} {beats : ℕ → ℕ → Bool} {weight : ℕ → ℕ} {k at most : ℕ} (x : ℕ) → x ≡ weight k → Weighs eligible beats weight k →
+    Held weight (best eligible beats k) at most →
+    Held weight (best eligible beats (k + 1)) (cond (ltb most x) k at) (cond (ltb most x) x most)
+held-more {eligible} {beats} {weight} {k} {at} {most} x q w h = rw (add-one, q) (by-test (eligible k) (w .light) (w .heavy) h)
+  where
+    by-beating :
+        (m : ℕ) (b d : Bool) → d ≡ b → 0 < weight k → 0 < weight m →
+        Held weight (cond d (At k) (At m)) (cond b k m) (cond b (weight k) (weight m))
+    by-beating m true d e i j = rw e (somebody k i)
+    by-beating m false d e i j = rw e (somebody m j)
+
+    by-held :
+        {f : Found} {at most : ℕ} → 0 < weight k → Held weight f at most →
+        Held weight (challenge true beats k f) (cond (ltb most (weight k)) k at) (cond (ltb most (weight k)) (weight k) most)
+    by-held i (nobody at) = rw (lt-ltb 0 (weight k) i) (somebody k i)
+    by-held i (somebody m j) = by-beating m (ltb (weight m) (weight k)) (beats k m) (w .heavier m i j) i j
+
+    by-test :
+        {f : Found} (b : Bool) → (b ≡ false → weight k ≡ 0) → (b ≡ true → 0 < weight k) → Held weight f at most →
+        Held weight (challenge b beats k f) (cond (ltb most (weight k)) k at) (cond (ltb most (weight k)) (weight k) most)
+    by-test true l g h = by-held (g refl) h
+    by-test false l g h = rw (l refl, le-ltb most 0 (omega arith)) h
+
+-- two tests that hold together
+ltb-alike : (a b c d : ℕ) → (a < b → c < d) → (b ≤ a → d ≤ c) → ltb a b ≡ ltb c d
+ltb-alike a b c d f g = by-test (ltb a b) refl
+  where
+    by-test : (t : Bool) → ltb a b ≡ t → t ≡ ltb c d
+    by-test true e = sym (lt-ltb c d (f (ltb-true a b e)))
+    by-test false e = sym (le-ltb c d (g (ltb-false a b e)))
+
+-- L3's weights
+weighs : (b : Reg) (header wear : ℕ → ℕ) (k : ℕ) → wear k ≤ mostWord → Weighs (eligible b header) (beats b wear) (weighing b header wear) k
+weighs P header wear k h =
     record {
-      most = omega arith;
-      found =
-          e ∙ ap (λ x. challenge (eligible k) (λ _ _. beats k x) k f) q ∙ challenge-place (eligible k) beats k f
-          ∙ rw add-one (ap (challenge (eligible k) beats k) (b .found));
+      light = λ e. rw (not-false (free (header k)) e);
+      heavy = λ e. rw (not-true (free (header k)) e) (omega arith);
+      heavier = λ m. by-headers (free (header k)) (free (header m)) (wear k) (wear m);
     }
+  where
+    by-headers :
+        (f g : Bool) (x y : ℕ) → 0 < cond f 0 (mostWord + 1 - x) → 0 < cond g 0 (mostWord + 1 - y) →
+        ltb x y ≡ ltb (cond g 0 (mostWord + 1 - y)) (cond f 0 (mostWord + 1 - x))
+    by-headers true g x y i j = absurd (omega arith)
+    by-headers false true x y i j = absurd (omega arith)
+    by-headers false false x y i j = ltb-alike x y (mostWord + 1 - y) (mostWord + 1 - x) (λ l. omega arith) (λ l. omega arith)
+weighs Q header wear k h =
+    record {
+      light = λ e. rw e;
+      heavy = λ e. rw e (omega arith);
+      heavier = λ m. by-headers (free (header k)) (free (header m)) (wear k) (wear m);
+    }
+  where
+    by-headers :
+        (f g : Bool) (x y : ℕ) → 0 < cond f (x + 1) 0 → 0 < cond g (y + 1) 0 → ltb y x ≡ ltb (cond g (y + 1) 0) (cond f (x + 1) 0)
+    by-headers false g x y i j = absurd (omega arith)
+    by-headers true false x y i j = absurd (omega arith)
+    by-headers true true x y i j = ltb-alike y x (y + 1) (x + 1) (λ l. omega arith) (λ l. omega arith)
 
-pub best-done : {eligible : ℕ → Bool} {beats : ℕ → ℕ → Bool} {n k : ℕ} {f : Found} → Best eligible beats n k f → n ≤ k → f ≡ best eligible beats n
-best-done {n = n} {k = k} b h = let i : k ≡ n = omega (arith, b .most) in rw (← i) (b .found)
+-- the search for p or q, one block more: it is heavier than all before it, or it is not
+pub sought-more :
+    (b : Reg) (header wear : ℕ → ℕ) {k at most : ℕ} (x : ℕ) → x ≡ weighing b header wear k → wear k ≤ mostWord →
+    Held (weighing b header wear) (soughtBy b header wear k) at most →
+    Held (weighing b header wear) (soughtBy b header wear (k + 1)) (cond (ltb most x) k at) (cond (ltb most x) x most)
+sought-more P header wear {k} x q w h = held-more x q (weighs P header wear k w) h
+sought-more Q header wear {k} x q w h = held-more x q (weighs Q header wear k w) h
+
+pub sought-none : (b : Reg) (header wear : ℕ → ℕ) → Held (weighing b header wear) (soughtBy b header wear 0) 0 0
+sought-none P header wear = nobody 0
+sought-none Q header wear = nobody 0
+
+-- what is found is below the bound on blocks
+pub sought-below : (b : Reg) (header wear : ℕ → ℕ) (n : ℕ) {f : Found} → f ≡ soughtBy b header wear n → n ≤ mostBlocks → placeOf f < mostBlocks
+sought-below P header wear n e h = rw e (best-below (eligible P header) (beats P wear) n mostBlocks h (omega arith))
+sought-below Q header wear n e h = rw e (best-below (eligible Q header) (beats Q wear) n mostBlocks h (omega arith))
+
+-- what is found in the end
+pub held-done : {weight : ℕ → ℕ} {f : Found} {at most : ℕ} → Held weight f at most → cond (eqb most 0) Nobody (At at) ≡ f
+held-done (nobody at) = refl
+held-done {weight} (somebody m i) = rw (ne-eqb (weight m) 0 (omega arith))
 
 -- ---- from and to
-
--- 'from' where a mapped block was found, of its wear and that of 'to' as they were read
-pub fromBlock-at :
-    (wear : ℕ → ℕ) (distance to place f a b : ℕ) {found : Found} (near : Bool) → found ≡ At f → place ≡ placeOf found → a ≡ wear to →
-    b ≡ wear place → ltb a (b + distance) ≡ near → cond near to f ≡ fromBlock wear distance to found
-fromBlock-at wear distance to place f a b near e ep ea eb q =
-    let i : place ≡ f = ep ∙ ap placeOf e in
-    rw e (ap (λ c. cond c to f) (sym q ∙ (λ j. ltb (ea j) ((eb ∙ ap wear i) j + distance))))
-
--- what is found of the first n blocks is below their number's bound
-pub found-below : (eligible : ℕ → Bool) (beats : ℕ → ℕ → Bool) (n : ℕ) {f : Found} → f ≡ best eligible beats n → n ≤ 512 → placeOf f < 512
-found-below eligible beats n e h = rw e (best-below eligible beats n 512 h (omega arith))
 
 -- L3's verdict looks at wear and distance alone
 pub chosen-choosing : (s : Store) (r : Thread) (to from : Found) → chosenBy (s .wear) (s .distance) r to from ≡ choosing s r to from

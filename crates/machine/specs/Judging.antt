@@ -1,27 +1,39 @@
 -- What the functions that judge a step take for granted, and the store that they are given as words and arrays.
 use mathlib.Core.Path.{_≡_}
-use mathlib.Core.Bool.{Bool}
+use mathlib.Core.Bool.{Bool, cond}
+use mathlib.Core.List.{List}
 use lib.Dec.{ltb}
-use Prim.Native.Nat.{ℕ, _<_, _≤_}
+use Prim.Native.Nat.{ℕ, _+_, _-_, _<_, _≤_}
 use Rattle.meaning.specs.declared.Thread.{Thread}
 use Rattle.meaning.specs.declared.Found.{Found}
 use Rattle.meaning.specs.declared.Found.the-variants.{Nobody, At}
-use Rattle.meaning.specs.Limits.{mostThreads, mostNumbers, mostBlocks}
+use Rattle.meaning.specs.Limits.{mostThreads, mostNumbers, mostBlocks, mostWord}
 use Rattle.meaning.specs.Store.{Store}
 use Rattle.meaning.specs.Programs.{LEVEL, lastLine}
 use Rattle.meaning.specs.declared.Verdict.{Verdict}
 use Rattle.meaning.specs.declared.Verdict.the-variants.{Fault}
 use Rattle.meaning.specs.declared.Reg.{Reg}
 use Rattle.meaning.specs.declared.Reg.the-variants.{P, Q}
-use Rattle.meaning.specs.Holding.{heldBy}
+use Rattle.meaning.specs.Holding.{free, heldBy}
 use Rattle.meaning.specs.Choosing.{lowestFree, toBlock, leastWorn, fromBlock}
 use Rattle.meaning.specs.Step.{need, next, setP, setQ, nothing}
+use Rattle.store.specs.Live.{headers, contents, wears, owners}
 use Rattle.machine.specs.declared.Near.{Near}
 
 -- the block that was found, 0 for none
 abbrev pub placeOf : Found → ℕ
 placeOf Nobody = 0
 placeOf (At m) = m
+
+-- what a block weighs in L3's search for p, the mapped block with least wear, or for q, the free block with most
+abbrev pub weightOf : Reg → ℕ → ℕ → ℕ
+weightOf P header wear = cond (free header) 0 (mostWord + 1 - wear)
+weightOf Q header wear = cond (free header) (wear + 1) 0
+
+-- L3's "from", for p, and "to", for q
+abbrev pub soughtBy : Reg → (ℕ → ℕ) → (ℕ → ℕ) → ℕ → Found
+soughtBy P header wear blocks = leastWorn header wear blocks
+soughtBy Q header wear blocks = toBlock header wear blocks
 
 -- L3's verdict where the headers are owned, of the tables and numbers that it looks at
 abbrev pub chosenBy : (ℕ → ℕ) → ℕ → Thread → Found → Found → Verdict
@@ -51,19 +63,19 @@ pub record Searches (s : Store) (headers wears : ℕ → ℕ) (count away : ℕ)
   pub blocks : count ≡ s .blocks
   pub distance : away ≡ s .distance
 
-abbrev pub nearOf : Thread → ℕ → ℕ → (ℕ → ℕ) → (ℕ → ℕ) → (ℕ → ℕ) → (ℕ → ℕ) → (ℕ → ℕ) → (ℕ → ℕ) → Near
-nearOf r lock owner map locks header content wear own =
+abbrev pub nearOf : Thread → ℕ → ℕ → (ℕ → ℕ) → (ℕ → ℕ) → List ℕ → Near
+nearOf r lock owner map locks records =
     record {
       lock = lock;
       owner = owner;
       map = map (r .n);
       locks = locks (r .n);
-      «header_p» = header (r .p);
-      «header_q» = header (r .q);
-      «content_p» = content (r .p);
-      «wear_p» = wear (r .p);
-      «own_p» = own (r .p);
-      «own_q» = own (r .q);
+      «header_p» = headers records (r .p);
+      «header_q» = headers records (r .q);
+      «content_p» = contents records (r .p);
+      «wear_p» = wears records (r .p);
+      «own_p» = owners records (r .p);
+      «own_q» = owners records (r .q);
     }
 
 -- W5's verdict of the headers, their owner and how many blocks there are
@@ -84,7 +96,7 @@ touchesOf Q p q = q
 -- the numbers of a working thread's record, as constants bound them
 pub record Steady (t : ℕ) (r : Thread) : Type 0 where
   pub thread : t < mostThreads
-  pub line : r .line < 4294967295
+  pub line : r .line < mostWord
   pub n : r .n < mostNumbers
   pub p : r .p < mostBlocks
   pub q : r .q < mostBlocks

@@ -7,12 +7,12 @@ ghost use Rattle.meaning.specs.Store.{Store as StoreOf};
 ghost use Rattle.meaning.specs.Limits.{mostThreads, mostNumbers, mostBlocks, mostWord};
 ghost use Rattle.meaning.specs.Holding.{free, named as namedOf};
 ghost use Rattle.meaning.specs.Programs.{actAt};
-ghost use Rattle.meaning.specs.Choosing.{lowestFree, challenge, toBlock, leastWorn, fromBlock};
+ghost use Rattle.meaning.specs.Choosing.{lowestFree, fromBlock};
 ghost use Rattle.meaning.specs.Step.{perform as performOf, apply as applyOf};
-ghost use Rattle.store.specs.Live.{table, Live, EntryBelow, made};
+ghost use Rattle.store.specs.Live.{table, headers, wears, Live, EntryBelow, made};
 ghost use Rattle.machine.specs.Settling.{Places, Reached, unblocked, onBlocks};
 ghost use Rattle.store.specs.Area.{decode};
-ghost use Rattle.machine.specs.Judging.{placeOf, chosenOf, pickedOf, ofReg, touchesOf, Sees, Searches, nearOf, Steady, AtLine};
+ghost use Rattle.machine.specs.Judging.{placeOf, weightOf, soughtBy, chosenOf, pickedOf, ofReg, touchesOf, Sees, Searches, nearOf, Steady, AtLine};
 use meaning::Act;
 use meaning::Effect;
 use meaning::Entry;
@@ -37,91 +37,24 @@ pub struct Near {
     pub own_q: u32,
 }
 
-// ---- searches among the blocks
+// ---- searches among the block records
 
 // W5: the lowest-numbered free block, or how many blocks there are where none is free.
-fn lowest_free(header: &[u32; Store::MAX_P], blocks: u32) -> u32
+fn lowest_free(records: &[u32; Store::BLOCK_CELLS], blocks: u32) -> u32
     requires { ⌜ blocks ≤ mostBlocks ⌝ }
-    ensures { λ r. ⌜ r ≡ lowestFree (table (now (header .entry))) blocks ⌝ }
+    ensures { λ r. ⌜ r ≡ lowestFree (headers (now (records .entry))) blocks ⌝ }
 {
     let mut k: u32 = 0;
     loop {
         if k == blocks {
             break blocks;
         }
-        if header[k as usize] == 0 {
+        let i = store::BLOCK_WORDS * (k as usize);
+        if records[i] == 0 {
             break k;
         }
         k += 1;
     }
-}
-
-// The block that was found, 0 for none.
-fn place(found: Found) -> u32
-    ensures { λ r. ⌜ r ≡ placeOf found ⌝ }
-{
-    match found {
-        Found::Nobody => 0,
-        Found::At(m) => m,
-    }
-}
-
-// Block k takes the place of what was found where it is eligible and beats it.
-fn better(eligible: bool, beats: bool, k: u32, found: Found) -> Found
-    ensures { λ r. ⌜ r ≡ challenge eligible (λ _ _. beats) k found ⌝ }
-{
-    if !eligible {
-        return found;
-    }
-    match found {
-        Found::Nobody => Found::At(k),
-        Found::At(m) => {
-            if beats {
-                return Found::At(k);
-            }
-            Found::At(m)
-        }
-    }
-}
-
-// L3's "to": the free block with most wear, the lowest number on ties.
-fn to_block<'a>(
-    header: &'a [u32; Store::MAX_P],
-    wear: &'a [u32; Store::MAX_P],
-    blocks: u32,
-) -> Found
-    requires { ⌜ blocks ≤ mostBlocks ⌝ }
-    ensures { λ r. ⌜ r ≡ toBlock (table (now (header .entry))) (table (now (wear .entry))) blocks ⌝ }
-{
-    let mut found = Found::Nobody;
-    let mut k: u32 = 0;
-    while k < blocks {
-        let i = k as usize;
-        let j = place(found) as usize;
-        found = better(header[i] == 0, wear[j] < wear[i], k, found);
-        k += 1;
-    }
-    found
-}
-
-// L3's "from": the mapped block with least wear, the lowest number on ties.
-fn least_worn<'a>(
-    header: &'a [u32; Store::MAX_P],
-    wear: &'a [u32; Store::MAX_P],
-    blocks: u32,
-) -> Found
-    requires { ⌜ blocks ≤ mostBlocks ⌝ }
-    ensures { λ r. ⌜ r ≡ leastWorn (table (now (header .entry))) (table (now (wear .entry))) blocks ⌝ }
-{
-    let mut found = Found::Nobody;
-    let mut k: u32 = 0;
-    while k < blocks {
-        let i = k as usize;
-        let j = place(found) as usize;
-        found = better(header[i] != 0, wear[i] < wear[j], k, found);
-        k += 1;
-    }
-    found
 }
 
 fn long(x: u32) -> u64
@@ -130,18 +63,55 @@ fn long(x: u32) -> u64
     x as u64
 }
 
-// "If there is no mapped block, or wear of 'to' is less than wear of 'from' plus D, then 'from' becomes 'to'": the sum doesn't wrap.
-fn from_block(wear: &[u32; Store::MAX_P], distance: u32, to: u32, found: Found) -> u32
-    requires { ⌜ (to < mostBlocks) × (placeOf found < mostBlocks) ⌝ }
-    ensures { λ r. ⌜ r ≡ fromBlock (table (now (wear .entry))) distance to found ⌝ }
+// More than any word.
+const BEYOND: u64 = 4294967296;
+
+// What a block weighs in L3's search for p, the mapped block with least wear, or for q, the free block with most: 0 where it is not in
+// question, and else more than the blocks that it beats.
+fn weight(b: Reg, header: u32, wear: u32) -> u64
+    ensures { λ r. ⌜ (r ≡ weightOf b header wear) × (wear ≤ mostWord) ⌝ }
 {
-    let i = to as usize;
-    let j = place(found) as usize;
-    let near = long(wear[i]) < long(wear[j]) + long(distance);
+    match b {
+        Reg::P => { if header == 0 { 0 } else { BEYOND - long(wear) } }
+        Reg::Q => { if header == 0 { long(wear) + 1 } else { 0 } }
+    }
+}
+
+// L3's "from", for p, or "to", for q: the lowest number on ties.
+fn heaviest(b: Reg, records: &[u32; Store::BLOCK_CELLS], blocks: u32) -> Found
+    requires { ⌜ blocks ≤ mostBlocks ⌝ }
+    ensures { λ r. ⌜ r ≡ soughtBy b (headers (now (records .entry))) (wears (now (records .entry))) blocks ⌝ }
+{
+    let mut at: u32 = 0;
+    let mut most: u64 = 0;
+    let mut k: u32 = 0;
+    while k < blocks {
+        let i = store::BLOCK_WORDS * (k as usize);
+        let x = weight(b, records[i], records[i + store::WEAR]);
+        if most < x {
+            at = k;
+            most = x;
+        }
+        k += 1;
+    }
+    if most == 0 {
+        Found::Nobody
+    } else {
+        Found::At(at)
+    }
+}
+
+// "If there is no mapped block, or wear of 'to' is less than wear of 'from' plus D, then 'from' becomes 'to'": the sum doesn't wrap.
+fn from_block(records: &[u32; Store::BLOCK_CELLS], distance: u32, to: u32, found: Found) -> u32
+    requires { ⌜ (to < mostBlocks) × (placeOf found < mostBlocks) ⌝ }
+    ensures { λ r. ⌜ r ≡ fromBlock (wears (now (records .entry))) distance to found ⌝ }
+{
     match found {
         Found::Nobody => to,
         Found::At(f) => {
-            if near {
+            let i = store::BLOCK_WORDS * (to as usize) + store::WEAR;
+            let j = store::BLOCK_WORDS * (f as usize) + store::WEAR;
+            if long(records[i]) < long(records[j]) + long(distance) {
                 return to;
             }
             f
@@ -150,22 +120,16 @@ fn from_block(wear: &[u32; Store::MAX_P], distance: u32, to: u32, found: Found) 
 }
 
 // L3, where the headers are owned.
-fn choose<'a>(
-    header: &'a [u32; Store::MAX_P],
-    wear: &'a [u32; Store::MAX_P],
-    blocks: u32,
-    distance: u32,
-    r: Thread,
-) -> Verdict
+fn choose(records: &[u32; Store::BLOCK_CELLS], blocks: u32, distance: u32, r: Thread) -> Verdict
     requires { ⌜ (blocks ≤ mostBlocks) × (r .line < mostWord) ⌝ }
-    ensures { λ v. ⌜ v ≡ chosenOf (table (now (header .entry))) (table (now (wear .entry))) blocks distance r ⌝ }
+    ensures { λ v. ⌜ v ≡ chosenOf (headers (now (records .entry))) (wears (now (records .entry))) blocks distance r ⌝ }
 {
-    let to = to_block(header, wear, blocks);
-    let from = least_worn(header, wear, blocks);
+    let to = heaviest(Reg::Q, records, blocks);
+    let from = heaviest(Reg::P, records, blocks);
     match to {
         Found::Nobody => Verdict::Fault,
         Found::At(q) => {
-            let p = from_block(wear, distance, q, from);
+            let p = from_block(records, distance, q, from);
             acts::next(acts::set_q(q, acts::set_p(p, r)), acts::nothing())
         }
     }
@@ -205,11 +169,11 @@ fn named(w: u32) -> u32
 }
 
 // W5.
-fn pick(header: &[u32; Store::MAX_P], blocks: u32, owner: u32, t: u32, r: Thread) -> Verdict
+fn pick(records: &[u32; Store::BLOCK_CELLS], blocks: u32, owner: u32, t: u32, r: Thread) -> Verdict
     requires { ⌜ (blocks ≤ mostBlocks) × (t < mostThreads) × (r .line < mostWord) ⌝ }
-    ensures { λ v. ⌜ v ≡ pickedOf (table (now (header .entry))) blocks owner t r ⌝ }
+    ensures { λ v. ⌜ v ≡ pickedOf (headers (now (records .entry))) blocks owner t r ⌝ }
 {
-    let p = lowest_free(header, blocks);
+    let p = lowest_free(records, blocks);
     let on = acts::set_p(p, acts::onward(r));
     acts::need(
         owner == t + 1,
@@ -218,19 +182,18 @@ fn pick(header: &[u32; Store::MAX_P], blocks: u32, owner: u32, t: u32, r: Thread
 }
 
 // What the act would do: an arm an act, as in specs/Step.antt. It looks at the words near its record and, where it searches, at all
-// headers and wear.
-fn perform<'a>(
+// block records.
+fn perform(
     act: Act,
     t: u32,
     r: Thread,
     x: Near,
-    header: &'a [u32; Store::MAX_P],
-    wear: &'a [u32; Store::MAX_P],
+    records: &[u32; Store::BLOCK_CELLS],
     blocks: u32,
     distance: u32,
 ) -> Verdict
     requires { ⌜ Steady t r × (blocks ≤ mostBlocks) ⌝ }
-    ensures { λ v. ⌜ ((s : StoreOf) → Sees s r x → Searches s (table (now (header .entry))) (table (now (wear .entry))) blocks distance → v ≡ performOf act s t r) ⌝ }
+    ensures { λ v. ⌜ ((s : StoreOf) → Sees s r x → Searches s (headers (now (records .entry))) (wears (now (records .entry))) blocks distance → v ≡ performOf act s t r) ⌝ }
 {
     let me = t + 1;
     let on = acts::onward(r);
@@ -279,8 +242,8 @@ fn perform<'a>(
             Verdict::Go(acts::goto(l, r), none),
             Verdict::Go(acts::set_n(named(r.h), on), none),
         ),
-        Act::PickFree => pick(header, blocks, x.owner, t, r),
-        Act::Choose => acts::need(x.owner == me, choose(header, wear, blocks, distance, r)),
+        Act::PickFree => pick(records, blocks, x.owner, t, r),
+        Act::Choose => acts::need(x.owner == me, choose(records, blocks, distance, r)),
         Act::ReadHeader => acts::need(
             x.owner == me,
             Verdict::Go(acts::set_h(x.header_p, on), none),
@@ -312,28 +275,25 @@ fn words_near<'a>(
     owner: u32,
     map: &'a [u32; Store::MAX_N],
     locks: &'a [u32; Store::MAX_N],
-    header: &'a [u32; Store::MAX_P],
-    content: &'a [u32; Store::MAX_P],
-    wear: &'a [u32; Store::MAX_P],
-    own: &'a [u32; Store::MAX_P],
+    records: &'a [u32; Store::BLOCK_CELLS],
 ) -> Near
     requires { ⌜ (r .n < mostNumbers) × (r .p < mostBlocks) × (r .q < mostBlocks) ⌝ }
-    ensures { λ x. ⌜ x ≡ nearOf r lock owner (table (now (map .entry))) (table (now (locks .entry))) (table (now (header .entry))) (table (now (content .entry))) (table (now (wear .entry))) (table (now (own .entry))) ⌝ }
+    ensures { λ x. ⌜ x ≡ nearOf r lock owner (table (now (map .entry))) (table (now (locks .entry))) (now (records .entry)) ⌝ }
 {
     let n = r.n as usize;
-    let p = r.p as usize;
-    let q = r.q as usize;
+    let p = store::BLOCK_WORDS * (r.p as usize);
+    let q = store::BLOCK_WORDS * (r.q as usize);
     Near {
         lock,
         owner,
         map: map[n],
         locks: locks[n],
-        header_p: header[p],
-        header_q: header[q],
-        content_p: content[p],
-        wear_p: wear[p],
-        own_p: own[p],
-        own_q: own[q],
+        header_p: records[p],
+        header_q: records[q],
+        content_p: records[p + store::CONTENT],
+        wear_p: records[p + store::WEAR],
+        own_p: records[p + store::OWN],
+        own_q: records[q + store::OWN],
     }
 }
 
@@ -349,20 +309,26 @@ pub fn judge(area: &[u8], z: Sizes, t: u32, r: Thread) -> Verdict
     requires { ⌜ Live (now area) (z .t) (z .n) (z .p) × Steady t r × AtLine r ⌝ }
     ensures { λ v. ⌜ v ≡ performOf (actAt (r .op) (r .line)) (decode (now (area .entry))) t r ⌝ }
 {
-    let s = store::load(area, z.t, z.n, z.p);
+    let map = store::map_at(z.t);
+    let locks = store::locks_at(z.t, z.n);
+    let blocks = store::blocks_at(z.t, z.n);
+    let threads = store::THREAD_WORDS * z.t;
+    let cells = store::BLOCK_WORDS * z.p;
+    let numbers = z.n;
+    let mut s = Store::fresh();
+    s.t = store::word_at(area, store::T_AT);
+    s.n = store::word_at(area, store::N_AT);
+    s.p = store::word_at(area, store::P_AT);
+    s.d = store::word_at(area, store::D_AT);
+    s.lock = store::word_at(area, store::LOCK_AT);
+    s.owner = store::word_at(area, store::OWNER_AT);
+    store::read_threads(area, store::THREADS_AT, threads, &mut s.threads);
+    store::read_numbers(area, map, numbers, &mut s.map);
+    store::read_numbers(area, locks, numbers, &mut s.locks);
+    store::read_blocks(area, blocks, cells, &mut s.blocks);
     let act = acts::act_at(r.op, r.line);
-    let words = words_near(
-        r,
-        s.lock,
-        s.owner,
-        &s.map,
-        &s.locks,
-        &s.header,
-        &s.content,
-        &s.wear,
-        &s.own,
-    );
-    perform(act, t, r, words, &s.header, &s.wear, s.p, s.d)
+    let words = words_near(r, s.lock, s.owner, &s.map, &s.locks, &s.blocks);
+    perform(act, t, r, words, &s.blocks, s.p, s.d)
 }
 
 // ---- doing it

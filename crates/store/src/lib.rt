@@ -9,14 +9,15 @@ ghost use Rattle.meaning.specs.Limits.{least, mostThreads, mostNumbers, mostBlo
 ghost use Rattle.meaning.specs.Programs.{lastLine};
 ghost use Rattle.store.specs.Layout.{threadsAt, threadWords, mapAt, locksAt, blocksAt, size};
 ghost use Rattle.store.specs.Area.{word, putWord, putThread, putBecome, putEntry, threadFrom, column, decode, soundThread, inBounds, wellFormed};
-ghost use Rattle.store.specs.Live.{Live, Within, EntryWithin, BecomeFits, EntryFits, Small, Reaches, Fills, table, view, zeroFilled};
+ghost use Rattle.store.specs.Live.{Live, Within, EntryWithin, BecomeFits, EntryFits, Small, Reaches, Fills, table, zeroFilled};
 use meaning::Entry;
 use meaning::Thread;
 use meaning::Word;
 
 // ---- the working store and the limits
 
-// The store inside the program: an array a field, filled with zeros at full size before an area is read in.
+// The store inside the program: 16 thread records, 256 map entries and locks and 512 block records, each table's words in the area's
+// order. It is filled with zeros at full size before an area is read in.
 pub struct Store {
     pub t: u32,
     pub n: u32,
@@ -27,10 +28,7 @@ pub struct Store {
     pub threads: [u32; Store::THREAD_CELLS],
     pub map: [u32; Store::MAX_N],
     pub locks: [u32; Store::MAX_N],
-    pub header: [u32; Store::MAX_P],
-    pub content: [u32; Store::MAX_P],
-    pub wear: [u32; Store::MAX_P],
-    pub own: [u32; Store::MAX_P],
+    pub blocks: [u32; Store::BLOCK_CELLS],
 }
 
 impl Store {
@@ -45,7 +43,10 @@ impl Store {
 
     pub const MAX_D: u32 = 1000;
 
-    pub const THREAD_CELLS: usize = 112;
+    // The words of all thread records and of all block records.
+    pub const THREAD_CELLS: usize = THREAD_WORDS * Store::MAX_T;
+
+    pub const BLOCK_CELLS: usize = BLOCK_WORDS * Store::MAX_P;
 
     // All zeros.
     pub fn fresh() -> Store
@@ -61,10 +62,7 @@ impl Store {
             threads: [0; Store::THREAD_CELLS],
             map: [0; Store::MAX_N],
             locks: [0; Store::MAX_N],
-            header: [0; Store::MAX_P],
-            content: [0; Store::MAX_P],
-            wear: [0; Store::MAX_P],
-            own: [0; Store::MAX_P],
+            blocks: [0; Store::BLOCK_CELLS],
         }
     }
 
@@ -321,87 +319,38 @@ pub fn set_thread(area: &mut [u8], k: usize, r: Thread)
     put_word(area, cell + 6, r.h);
 }
 
-// ---- loading: the words of a column into an array of zeros, for each length that the working store has
+// ---- reading in
 
-fn read_threads(
-    area: &[u8],
-    from: usize,
-    stride: usize,
-    count: usize,
-    into: &mut [u32; Store::THREAD_CELLS],
-)
-    requires { ⌜ Fills (now area) from stride count (now into) (threadWords * mostThreads) ⌝ }
-    ensures { λ _. ⌜ table (now (into .exit)) ≡ column (word (now (area .entry))) from stride count ⌝ }
+// The area's words from a place on, into an array of zeros.
+fn read_words(area: &[u8], from: usize, count: usize, into: &mut [u32])
+    requires { ⌜ Fills (now area) from count (now into) ⌝ }
+    ensures { λ _. ⌜ table (now (into .exit)) ≡ column (word (now (area .entry))) from 1 count ⌝ }
 {
     let mut k: usize = 0;
     while k < count {
-        let cell = from + stride * k;
-        into[k] = word_at(area, cell);
+        into[k] = word_at(area, from + k);
         k += 1;
     }
 }
 
-fn read_numbers(
-    area: &[u8],
-    from: usize,
-    stride: usize,
-    count: usize,
-    into: &mut [u32; Store::MAX_N],
-)
-    requires { ⌜ Fills (now area) from stride count (now into) mostNumbers ⌝ }
-    ensures { λ _. ⌜ table (now (into .exit)) ≡ column (word (now (area .entry))) from stride count ⌝ }
+// The same for the arrays of the working store. A field can be lent only as the array that it is.
+pub fn read_threads(area: &[u8], from: usize, count: usize, into: &mut [u32; Store::THREAD_CELLS])
+    requires { ⌜ Fills (now area) from count (now into) ⌝ }
+    ensures { λ _. ⌜ table (now (into .exit)) ≡ column (word (now (area .entry))) from 1 count ⌝ }
 {
-    let mut k: usize = 0;
-    while k < count {
-        let cell = from + stride * k;
-        into[k] = word_at(area, cell);
-        k += 1;
-    }
+    read_words(area, from, count, into);
 }
 
-fn read_blocks(
-    area: &[u8],
-    from: usize,
-    stride: usize,
-    count: usize,
-    into: &mut [u32; Store::MAX_P],
-)
-    requires { ⌜ Fills (now area) from stride count (now into) mostBlocks ⌝ }
-    ensures { λ _. ⌜ table (now (into .exit)) ≡ column (word (now (area .entry))) from stride count ⌝ }
+pub fn read_numbers(area: &[u8], from: usize, count: usize, into: &mut [u32; Store::MAX_N])
+    requires { ⌜ Fills (now area) from count (now into) ⌝ }
+    ensures { λ _. ⌜ table (now (into .exit)) ≡ column (word (now (area .entry))) from 1 count ⌝ }
 {
-    let mut k: usize = 0;
-    while k < count {
-        let cell = from + stride * k;
-        into[k] = word_at(area, cell);
-        k += 1;
-    }
+    read_words(area, from, count, into);
 }
 
-// The working store of a live area.
-pub fn load(area: &[u8], t: usize, n: usize, p: usize) -> Store
-    requires { ⌜ Live (now area) t n p ⌝ }
-    ensures { λ r. ⌜ view r ≡ decode (now (area .entry)) ⌝ }
+pub fn read_blocks(area: &[u8], from: usize, count: usize, into: &mut [u32; Store::BLOCK_CELLS])
+    requires { ⌜ Fills (now area) from count (now into) ⌝ }
+    ensures { λ _. ⌜ table (now (into .exit)) ≡ column (word (now (area .entry))) from 1 count ⌝ }
 {
-    let map = map_at(t);
-    let locks = locks_at(t, n);
-    let header = blocks_at(t, n);
-    let content = header + CONTENT;
-    let wear = header + WEAR;
-    let own = header + OWN;
-    let threads = THREAD_WORDS * t;
-    let mut s = Store::fresh();
-    s.t = word_at(area, T_AT);
-    s.n = word_at(area, N_AT);
-    s.p = word_at(area, P_AT);
-    s.d = word_at(area, D_AT);
-    s.lock = word_at(area, LOCK_AT);
-    s.owner = word_at(area, OWNER_AT);
-    read_threads(area, THREADS_AT, 1, threads, &mut s.threads);
-    read_numbers(area, map, 1, n, &mut s.map);
-    read_numbers(area, locks, 1, n, &mut s.locks);
-    read_blocks(area, header, BLOCK_WORDS, p, &mut s.header);
-    read_blocks(area, content, BLOCK_WORDS, p, &mut s.content);
-    read_blocks(area, wear, BLOCK_WORDS, p, &mut s.wear);
-    read_blocks(area, own, BLOCK_WORDS, p, &mut s.own);
-    s
+    read_words(area, from, count, into);
 }

@@ -3,36 +3,39 @@ use mathlib.Core.Path.{_∙_, sym, ap, ap₂}
 use native.Mathlib.Omega.{arith}
 use Rattle.meaning.specs.Choosing.{fromBlock}
 use Rattle.meaning.specs.Step.{next, setP, setQ}
-use Rattle.store.specs.Live.{table}
-use Rattle.machine.proofs.Search.{found-below}
+use Rattle.meaning.specs.declared.Reg.the-variants.{P, Q}
+use Rattle.store.specs.Live.{headers, wears}
+use Rattle.machine.proofs.Search.{sought-below}
 use borrow.Author.Needs.{needs}
 use Rattle.machine.proofs.choose.Statement.{statement}
 use Rattle.machine.proofs.choose.Tie as tie
 
 from-block-requires : tie.Need-from-block-requires
-from-block-requires c κs = (
-  rw (c .before .to .given .1) at (found-below _ _ _ (c .before .before .before .before .to-block .ensures) (c .before .before .before .before .before .pre .0)),
-  found-below _ _ _ (c .before .before .before .least-worn .ensures) (c .before .before .before .before .before .pre .0),
-)
+from-block-requires c κs =
+    let a = c .before .before .before .before .before .args in
+    let header = headers (a .records .now) in
+    let wear = wears (a .records .now) in (
+      rw (c .before .to .given .1) at (sought-below Q header wear (a .blocks) (c .before .before .before .before .heaviest .ensures) (c .before .before .before .before .before .pre .0)),
+      sought-below P header wear (a .blocks) (c .before .before .before .heaviest2 .ensures) (c .before .before .before .before .before .pre .0),
+    )
 
 next-requires : tie.Need-next-requires
 next-requires c κs = omega (arith, ap (λ x. x .line) (c .before .set-q .ensures), ap (λ x. x .line) (c .before .before .set-p .ensures))
 
 returns : tie.Need-returns
-returns c = rw (sym (c .before .before .before .to-block .ensures) ∙ c .enum-told .given .1)
+returns c = rw (sym (c .before .before .before .heaviest .ensures) ∙ c .enum-told .given .1)
 
 returns-2 : tie.Need-returns-2
 returns-2 c =
     let a = c .before .before .before .before .before .before .before .before .before .before .args in
-    let wear = table (a .wear .now) in
     let q = c .before .before .before .before .before .before .to .given .0 .0 in
     let chosen =
     c .before .before .set-q .ensures
     ∙ ap (setQ q)
     (c .before .before .before .set-p .ensures
-    ∙ ap (λ x. setP x (a .r)) (c .before .before .before .before .from-block .ensures ∙ ap (fromBlock wear (a .distance) q) (c .before .before .before .before .before .before .before .before .least-worn .ensures)))
+    ∙ ap (λ x. setP x (a .r)) (c .before .before .before .before .from-block .ensures ∙ ap (fromBlock (wears (a .records .now)) (a .distance) q) (c .before .before .before .before .before .before .before .before .heaviest2 .ensures)))
     in
-    rw (sym (c .before .before .before .before .before .before .before .before .before .to-block .ensures) ∙ c .before .before .before .before .before .before .to .given .1) (c .next .ensures ∙ ap₂ next chosen (c .before .nothing .ensures))
+    rw (sym (c .before .before .before .before .before .before .before .before .before .heaviest .ensures) ∙ c .before .before .before .before .before .before .to .given .1) (c .next .ensures ∙ ap₂ next chosen (c .before .nothing .ensures))
 
 pub choose-spec : {M : Type 1} → statement M
 choose-spec =

@@ -1,29 +1,33 @@
 -- `machine::from_block` meets its contract. Assumes nothing.
-use mathlib.Core.Path.{_∙_, sym, ap}
 use Prim.Native.Nat.{_+_}
-use lib.Dec.{ltb}
+use native.Mathlib.Omega.{arith}
 use borrow.Author.Needs.{needs}
-use mathlib.Core.Bool.{true, false}
-use Rattle.machine.proofs.Search.{fromBlock-at}
+use borrow.Author.Tests.{lt-ltb, le-ltb}
+use Rattle.store.specs.Live.{wears}
 use Rattle.machine.proofs.from_block.Statement.{statement}
 use Rattle.machine.proofs.from_block.Tie as tie
 
+element-copy-out-long-2 : tie.Need-element-copy-out-long-2
+element-copy-out-long-2 c = omega (arith, (rw (c .before .before .before .found .given .1) at (c .before .before .before .before .before .pre .1)))
+
 returns : tie.Need-returns
 returns c =
-    fromBlock-at _ _ _ (c .before .before .before .before .before .before .before .before .before .place .result) _ (c .before .before .before .before .before .before .before .long .result) (c .before .before .before .before .before .long2 .result) true (c .before .before .found .given .1)
-    (c .before .before .before .before .before .before .before .before .before .place .ensures) (c .before .before .before .before .before .before .before .long .ensures .0) (c .before .before .before .before .before .long2 .ensures .0) (ap (λ x. ltb (c .before .before .before .before .before .before .before .long .result) (c .before .before .before .before .before .long2 .result + x)) (sym (c .before .before .before .before .long3 .ensures .0)) ∙ c .if1 .taken)
-
-returns-2 : tie.Need-returns-2
-returns-2 c = rw (c .enum-told .given .1)
+    let wear = wears (c .before .before .before .before .before .before .before .before .before .args .records .now) in
+    let near = lt-ltb (wear (c .before .before .before .before .before .before .before .before .before .args .to)) (wear (c .before .before .before .before .before .before .before .found .given .0 .0) + c .before .before .before .before .before .before .before .before .before .args .distance)
+    (omega (arith, c .if1 .taken, c .before .before .before .before .long .ensures, c .before .before .long2 .ensures, c .before .long3 .ensures)) in
+    rw (c .before .before .before .before .before .before .before .found .given .1, near)
 
 returns-3 : tie.Need-returns-3
 returns-3 c =
-    fromBlock-at _ _ _ (c .before .before .before .before .before .before .before .before .before .place .result) _ (c .before .before .before .before .before .before .before .long .result) (c .before .before .before .before .before .long2 .result) false (c .before .before .found .given .1)
-    (c .before .before .before .before .before .before .before .before .before .place .ensures) (c .before .before .before .before .before .before .before .long .ensures .0) (c .before .before .before .before .before .long2 .ensures .0) (ap (λ x. ltb (c .before .before .before .before .before .before .before .long .result) (c .before .before .before .before .before .long2 .result + x)) (sym (c .before .before .before .before .long3 .ensures .0)) ∙ c .if1 .left)
+    let wear = wears (c .before .before .before .before .before .before .before .before .before .args .records .now) in
+    let far = le-ltb (wear (c .before .before .before .before .before .before .before .before .before .args .to)) (wear (c .before .before .before .before .before .before .before .found .given .0 .0) + c .before .before .before .before .before .before .before .before .before .args .distance)
+    (omega (arith, c .if1 .left, c .before .before .before .before .long .ensures, c .before .before .long2 .ensures, c .before .long3 .ensures)) in
+    rw (c .before .before .before .before .before .before .before .found .given .1, far)
 
 pub from-block-spec : {M : Type 1} → statement M
 from-block-spec =
     tie.close
-    (tie.spec (λ c κs. search needs) (λ c. search needs) (λ c. search needs) (λ c. search needs) (λ c κs. search needs)
-    (λ c. search needs) (λ c. search needs) (λ c κs. search needs) (λ c κs. search needs) (λ c. search needs)
-    (λ c. search needs) (λ c. search needs) returns returns-2 returns-3)
+    (tie.spec (λ c. search needs) (λ c. search needs) (λ c. search needs) (λ c. search needs) (λ c. search needs)
+    (λ c. search needs) (λ c. search needs) (λ c. search needs) (λ c. search needs) (λ c κs. search needs)
+    (λ c. search needs) element-copy-out-long-2 (λ c κs. search needs) (λ c κs. search needs) (λ c. search needs)
+    returns (λ c. search needs) returns-3)

@@ -71,8 +71,8 @@ static void *call_it(void *calls)
 }
 
 /*
- * The bytes of stack below the caller that the calls write to, or the end of
- * the thread if that goes deeper: so a bound, and no less than the calls take.
+ * The bytes of stack below the caller that were written to, by the calls or,
+ * where that goes deeper, by the end of the thread.
  */
 static size_t taken(void (*calls)(void))
 {

@@ -6,10 +6,12 @@
  * THE AREA
  *
  * All that the layer knows stands in one run of bytes that you own, the area.
- * It may lie anywhere and at any alignment. Its length is exact:
- * KERNELSUN_LENGTH(t, n, p) bytes for t threads, n logical and p physical
- * blocks. The three functions below neither allocate nor keep anything between
- * calls: an area may be copied, saved and brought back between any two calls.
+ * It may lie anywhere in memory that can be read and written, at any alignment.
+ * Its length is exact: KERNELSUN_LENGTH(t, n, p) bytes for t threads, n logical
+ * and p physical blocks. A call with another length is refused (KERNELSUN_SHAPE)
+ * and touches no byte beyond the length that it was given. The three functions
+ * below neither allocate nor keep anything between calls, the pointer included:
+ * an area may be moved, copied, saved and brought back between any two calls.
  *
  * A content is one 32-bit word. 0 is "empty", what a read of an unmapped block
  * gives; a written 0 is a content like any other and reads the same.
@@ -43,8 +45,9 @@
  * back; the value beside it is the operation's answer, and the thread is idle
  * again. KERNELSUN_BLOCKED means that the line waits for a lock that another
  * open operation holds: step the other threads and try again. In an area that
- * came from format() and was changed by these functions alone, stepping all
- * open threads in turn finishes all of them.
+ * came from format() and was changed by these functions alone, some open thread
+ * can always go on, and no operation has more than 18 lines: stepping all open
+ * threads in turn finishes all of them, if no more are begun meanwhile.
  *
  *     uint64_t r = begin(area, len, 0, KERNELSUN_READ, 7, 0);
  *     if (kernelsun_number(r) == KERNELSUN_WENT) {
@@ -65,6 +68,16 @@
  * number times 4,294,967,296 plus value. Only KERNELSUN_WENT and
  * KERNELSUN_FINISHED change the area. After any other number each byte is as
  * it was.
+ *
+ * LINKING
+ *
+ *     cc -std=c99 -Iinclude yours.c target/staticlib/libdoor.a
+ *
+ * The library is for x86-64 with the calling convention of Linux; it may be
+ * part of a position-independent program. It takes the names format, begin and
+ * step and no other, asks for memcpy and memset and for nothing else, has no
+ * data of its own, and each call ends by itself. step() takes up to 24 KB of
+ * stack, format() and begin() less than 1 KB.
  */
 #ifndef KERNELSUN_H
 #define KERNELSUN_H
@@ -144,7 +157,8 @@ uint64_t format(uint8_t *area, size_t len, uint32_t t, uint32_t n, uint32_t p, u
 
 /*
  * Opens operation op on an idle thread. n is the logical block and c the
- * content, each for the operations that use it.
+ * content, each for the operations that use it; where one isn't used, any
+ * number will do.
  *
  * Gives WENT; or, the first that applies, SHAPE, THREAD, BUSY, OPERATION,
  * LOGICAL.

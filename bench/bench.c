@@ -276,14 +276,23 @@ static uint64_t step_that_does_nothing(uint8_t *area, size_t len, uint32_t threa
     return 0;
 }
 
-/* What the loop around the calls costs; it is part of every figure. */
-static double least_of_the_loop(const work *w)
+/* The store's zeros alone. What the assembler might read can't be left out by the compiler. */
+static uint64_t step_that_only_fills(uint8_t *area, size_t len, uint32_t thread)
+{
+    uint8_t store[KERNELSUN_LENGTH_MOST];
+    memset(store, 0, sizeof store);
+    __asm__ volatile("" : : "r"(store) : "memory");
+    return step_that_does_nothing(area, len, thread);
+}
+
+/* What a call costs that is none of the versions. */
+static double least_of(const work *w, step_call *call)
 {
     static uint8_t area[KERNELSUN_LENGTH_MOST];
     double least = 0;
     for (int run = 0; run < RUNS; run++) {
         double ns;
-        timed(w, step_that_does_nothing, area, &ns);
+        timed(w, call, area, &ns);
         least = run == 0 || ns < least ? ns : least;
     }
     return least;
@@ -343,8 +352,10 @@ int main(void)
            CALLS_A_RUN, OPERATIONS_A_RUN, (unsigned)figures[MIX_LARGEST].calls);
     print_table("least", 0);
     print_table("median", RUNS / 2);
-    printf("The loop around a call is part of each figure: %.1f ns.\n",
-           least_of_the_loop(&works[FIGURE_IDLE]));
+    printf("The loop around a call is part of each figure: %.1f ns. Filling %u bytes with zeros, by\n"
+           "itself and with that loop: %.1f ns, the least of as many runs.\n",
+           least_of(&works[FIGURE_IDLE], step_that_does_nothing), (unsigned)KERNELSUN_LENGTH_MOST,
+           least_of(&works[FIGURE_IDLE], step_that_only_fills));
     printf("All versions gave the same results and left the same bytes: %llu areas compared.\n",
            (unsigned long long)areas_compared);
     return 0;

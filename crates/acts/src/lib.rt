@@ -4,15 +4,19 @@ ghost use mathlib.Core.Path.{_≡_};
 ghost use mathlib.Core.Bool.{cond};
 ghost use Prim.Native.Nat.{_+_, _<_, _≤_};
 ghost use Rattle.meaning.specs.Programs.{actAt, lastLine};
-ghost use Rattle.meaning.specs.Step.{goto as gotoOf, onward as onwardOf, setN, setC, setP, setQ, setH, block as blockOf, nothing as nothingOf, onLock, onOwner, onMap, onLocks, onHeader, onContent, onFreed, onOwn, need as needOf, next as nextOf, worn as wornOf, moved as movedOf, answer as answerOf};
+ghost use Rattle.meaning.specs.Step.{goto as gotoOf, onward as onwardOf, setN, setC, setP, setQ, setH, block as blockOf, effect as effectOf, nothing as nothingOf, onLock, onOwner, onMap, onLocks, onHeader, onContent, onFreed, onOwn, need as needOf, next as nextOf, worn as wornOf, moved as movedOf, answer as answerOf};
 use meaning::Act;
 use meaning::Answer;
 use meaning::Effect;
 use meaning::Entry;
+use meaning::Entry::Keep;
+use meaning::Entry::Put;
 use meaning::Reg;
 use meaning::Thread;
 use meaning::Verdict;
 use meaning::Word;
+use meaning::Word::Become;
+use meaning::Word::Stay;
 
 // ---- document 01, "The lines"
 
@@ -162,139 +166,82 @@ pub fn block(b: Reg, r: Thread) -> u32
 
 // ---- effects
 
+fn effect(
+    lock: Word,
+    owner: Word,
+    map: Entry,
+    locks: Entry,
+    header: Entry,
+    content: Entry,
+    wear: Entry,
+    own: Entry,
+) -> Effect
+    ensures { λ e. ⌜ e ≡ effectOf lock owner map locks header content wear own ⌝ }
+{
+    Effect {
+        lock,
+        owner,
+        map,
+        locks,
+        header,
+        content,
+        wear,
+        own,
+    }
+}
+
 pub fn nothing() -> Effect
     ensures { λ e. ⌜ e ≡ nothingOf ⌝ }
 {
-    Effect {
-        lock: Word::Stay,
-        owner: Word::Stay,
-        map: Entry::Keep,
-        locks: Entry::Keep,
-        header: Entry::Keep,
-        content: Entry::Keep,
-        wear: Entry::Keep,
-        own: Entry::Keep,
-    }
+    effect(Stay, Stay, Keep, Keep, Keep, Keep, Keep, Keep)
 }
 
 pub fn on_lock(w: u32) -> Effect
     ensures { λ e. ⌜ e ≡ onLock w ⌝ }
 {
-    Effect {
-        lock: Word::Become(w),
-        owner: Word::Stay,
-        map: Entry::Keep,
-        locks: Entry::Keep,
-        header: Entry::Keep,
-        content: Entry::Keep,
-        wear: Entry::Keep,
-        own: Entry::Keep,
-    }
+    effect(Become(w), Stay, Keep, Keep, Keep, Keep, Keep, Keep)
 }
 
 pub fn on_owner(w: u32) -> Effect
     ensures { λ e. ⌜ e ≡ onOwner w ⌝ }
 {
-    Effect {
-        lock: Word::Stay,
-        owner: Word::Become(w),
-        map: Entry::Keep,
-        locks: Entry::Keep,
-        header: Entry::Keep,
-        content: Entry::Keep,
-        wear: Entry::Keep,
-        own: Entry::Keep,
-    }
+    effect(Stay, Become(w), Keep, Keep, Keep, Keep, Keep, Keep)
 }
 
 pub fn on_map(n: u32, w: u32) -> Effect
     ensures { λ e. ⌜ e ≡ onMap n w ⌝ }
 {
-    Effect {
-        lock: Word::Stay,
-        owner: Word::Stay,
-        map: Entry::Put(n, w),
-        locks: Entry::Keep,
-        header: Entry::Keep,
-        content: Entry::Keep,
-        wear: Entry::Keep,
-        own: Entry::Keep,
-    }
+    effect(Stay, Stay, Put(n, w), Keep, Keep, Keep, Keep, Keep)
 }
 
 pub fn on_locks(n: u32, w: u32) -> Effect
     ensures { λ e. ⌜ e ≡ onLocks n w ⌝ }
 {
-    Effect {
-        lock: Word::Stay,
-        owner: Word::Stay,
-        map: Entry::Keep,
-        locks: Entry::Put(n, w),
-        header: Entry::Keep,
-        content: Entry::Keep,
-        wear: Entry::Keep,
-        own: Entry::Keep,
-    }
+    effect(Stay, Stay, Keep, Put(n, w), Keep, Keep, Keep, Keep)
 }
 
 pub fn on_header(m: u32, w: u32) -> Effect
     ensures { λ e. ⌜ e ≡ onHeader m w ⌝ }
 {
-    Effect {
-        lock: Word::Stay,
-        owner: Word::Stay,
-        map: Entry::Keep,
-        locks: Entry::Keep,
-        header: Entry::Put(m, w),
-        content: Entry::Keep,
-        wear: Entry::Keep,
-        own: Entry::Keep,
-    }
+    effect(Stay, Stay, Keep, Keep, Put(m, w), Keep, Keep, Keep)
 }
 
 pub fn on_content(m: u32, w: u32) -> Effect
     ensures { λ e. ⌜ e ≡ onContent m w ⌝ }
 {
-    Effect {
-        lock: Word::Stay,
-        owner: Word::Stay,
-        map: Entry::Keep,
-        locks: Entry::Keep,
-        header: Entry::Keep,
-        content: Entry::Put(m, w),
-        wear: Entry::Keep,
-        own: Entry::Keep,
-    }
+    effect(Stay, Stay, Keep, Keep, Keep, Put(m, w), Keep, Keep)
 }
 
 pub fn on_freed(m: u32, w: u32) -> Effect
     ensures { λ e. ⌜ e ≡ onFreed m w ⌝ }
 {
-    Effect {
-        lock: Word::Stay,
-        owner: Word::Stay,
-        map: Entry::Keep,
-        locks: Entry::Keep,
-        header: Entry::Put(m, 0),
-        content: Entry::Keep,
-        wear: Entry::Put(m, w),
-        own: Entry::Keep,
-    }
+    effect(Stay, Stay, Keep, Keep, Put(m, 0), Keep, Put(m, w), Keep)
 }
 
 pub fn on_own(m: u32, w: u32) -> Effect
     ensures { λ e. ⌜ e ≡ onOwn m w ⌝ }
 {
-    Effect {
-        lock: Word::Stay,
-        owner: Word::Stay,
-        map: Entry::Keep,
-        locks: Entry::Keep,
-        header: Entry::Keep,
-        content: Entry::Keep,
-        wear: Entry::Keep,
-        own: Entry::Put(m, w),
-    }
+    effect(Stay, Stay, Keep, Keep, Keep, Keep, Keep, Put(m, w))
 }
 
 // ---- verdicts

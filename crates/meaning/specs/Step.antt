@@ -56,114 +56,38 @@ block Q r = r .q
 
 -- ---- the effects that there are
 
+-- what becomes of each word and table, in the area's order
+abbrev pub effect : Word → Word → Entry → Entry → Entry → Entry → Entry → Entry → Effect
+effect lock owner map locks header content wear own =
+    record { lock = lock; owner = owner; map = map; locks = locks; header = header; content = content; wear = wear; own = own }
+
 abbrev pub nothing : Effect
-nothing =
-    record { lock = Stay; owner = Stay; map = Keep; locks = Keep; header = Keep; content = Keep; wear = Keep; own = Keep }
+nothing = effect Stay Stay Keep Keep Keep Keep Keep Keep
 
 abbrev pub onLock : ℕ → Effect
-onLock w =
-    record {
-      lock = Become w;
-      owner = Stay;
-      map = Keep;
-      locks = Keep;
-      header = Keep;
-      content = Keep;
-      wear = Keep;
-      own = Keep;
-    }
+onLock w = effect (Become w) Stay Keep Keep Keep Keep Keep Keep
 
 abbrev pub onOwner : ℕ → Effect
-onOwner w =
-    record {
-      lock = Stay;
-      owner = Become w;
-      map = Keep;
-      locks = Keep;
-      header = Keep;
-      content = Keep;
-      wear = Keep;
-      own = Keep;
-    }
+onOwner w = effect Stay (Become w) Keep Keep Keep Keep Keep Keep
 
 abbrev pub onMap : ℕ → ℕ → Effect
-onMap n w =
-    record {
-      lock = Stay;
-      owner = Stay;
-      map = Put n w;
-      locks = Keep;
-      header = Keep;
-      content = Keep;
-      wear = Keep;
-      own = Keep;
-    }
+onMap n w = effect Stay Stay (Put n w) Keep Keep Keep Keep Keep
 
 abbrev pub onLocks : ℕ → ℕ → Effect
-onLocks n w =
-    record {
-      lock = Stay;
-      owner = Stay;
-      map = Keep;
-      locks = Put n w;
-      header = Keep;
-      content = Keep;
-      wear = Keep;
-      own = Keep;
-    }
+onLocks n w = effect Stay Stay Keep (Put n w) Keep Keep Keep Keep
 
 abbrev pub onHeader : ℕ → ℕ → Effect
-onHeader m w =
-    record {
-      lock = Stay;
-      owner = Stay;
-      map = Keep;
-      locks = Keep;
-      header = Put m w;
-      content = Keep;
-      wear = Keep;
-      own = Keep;
-    }
+onHeader m w = effect Stay Stay Keep Keep (Put m w) Keep Keep Keep
 
 abbrev pub onContent : ℕ → ℕ → Effect
-onContent m w =
-    record {
-      lock = Stay;
-      owner = Stay;
-      map = Keep;
-      locks = Keep;
-      header = Keep;
-      content = Put m w;
-      wear = Keep;
-      own = Keep;
-    }
+onContent m w = effect Stay Stay Keep Keep Keep (Put m w) Keep Keep
 
 -- a block freed, with its wear
 abbrev pub onFreed : ℕ → ℕ → Effect
-onFreed m w =
-    record {
-      lock = Stay;
-      owner = Stay;
-      map = Keep;
-      locks = Keep;
-      header = Put m none;
-      content = Keep;
-      wear = Put m w;
-      own = Keep;
-    }
+onFreed m w = effect Stay Stay Keep Keep (Put m none) Keep (Put m w) Keep
 
 abbrev pub onOwn : ℕ → ℕ → Effect
-onOwn m w =
-    record {
-      lock = Stay;
-      owner = Stay;
-      map = Keep;
-      locks = Keep;
-      header = Keep;
-      content = Keep;
-      wear = Keep;
-      own = Put m w;
-    }
+onOwn m w = effect Stay Stay Keep Keep Keep Keep Keep (Put m w)
 
 -- ---- verdicts
 

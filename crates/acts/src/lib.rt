@@ -1,10 +1,12 @@
 // The programs as tables, and the small by-value functions that a line is made of: records, effects, verdicts. Each is the definition
-// of the same name in the crate meaning (specs/Programs.antt, specs/Step.antt).
+// of the same name in the crate meaning (specs/Programs.antt, specs/Holding.antt, specs/Step.antt).
 ghost use mathlib.Core.Path.{_≡_};
 ghost use mathlib.Core.Bool.{cond};
 ghost use Prim.Native.Nat.{_+_, _<_, _≤_};
+ghost use Rattle.meaning.specs.Limits.{mostWord};
+ghost use Rattle.meaning.specs.Holding.{named as namedOf};
 ghost use Rattle.meaning.specs.Programs.{actAt, lastLine};
-ghost use Rattle.meaning.specs.Step.{goto as gotoOf, onward as onwardOf, setN, setC, setP, setQ, setH, block as blockOf, effect as effectOf, nothing as nothingOf, onLock, onOwner, onMap, onLocks, onHeader, onContent, onFreed, onOwn, need as needOf, next as nextOf, worn as wornOf, moved as movedOf, answer as answerOf};
+ghost use Rattle.meaning.specs.Step.{goto as gotoOf, onward as onwardOf, setN, setC, setP, setQ, setH, block as blockOf, effect as effectOf, nothing as nothingOf, onLock, onOwner, onMap, onLocks, onHeader, onContent, onFreed, onOwn, need as needOf, take as takeOf, next as nextOf, branch as branchOf, worn as wornOf, moved as movedOf, answer as answerOf};
 use meaning::Act;
 use meaning::Answer;
 use meaning::Effect;
@@ -17,6 +19,9 @@ use meaning::Verdict;
 use meaning::Word;
 use meaning::Word::Become;
 use meaning::Word::Stay;
+
+// The largest word, at which wear stays.
+const MOST_WORD: u32 = 4294967295;
 
 // ---- document 01, "The lines"
 
@@ -109,7 +114,7 @@ pub fn goto(l: u32, r: Thread) -> Thread
 }
 
 pub fn onward(r: Thread) -> Thread
-    requires { ⌜ r .line < 4294967295 ⌝ }
+    requires { ⌜ r .line < mostWord ⌝ }
     ensures { λ x. ⌜ x ≡ onwardOf r ⌝ }
 {
     goto(r.line + 1, r)
@@ -246,36 +251,55 @@ pub fn on_own(m: u32, w: u32) -> Effect
 
 // ---- verdicts
 
+fn either(first: bool, v: Verdict, w: Verdict) -> Verdict
+    ensures { λ x. ⌜ x ≡ cond first v w ⌝ }
+{
+    if first { v } else { w }
+}
+
 pub fn need(met: bool, v: Verdict) -> Verdict
     ensures { λ x. ⌜ x ≡ needOf met v ⌝ }
 {
-    if met { v } else { Verdict::Fault }
+    either(met, v, Verdict::Fault)
 }
 
-// `is_free` says whether the lock is.
-pub fn take(is_free: bool, v: Verdict) -> Verdict
-    ensures { λ x. ⌜ x ≡ cond «is_free» v Verdict.Blocked ⌝ }
+pub fn take(w: u32, v: Verdict) -> Verdict
+    ensures { λ x. ⌜ x ≡ takeOf w v ⌝ }
 {
-    if is_free { v } else { Verdict::Blocked }
+    either(w == 0, v, Verdict::Blocked)
 }
 
 pub fn next(r: Thread, e: Effect) -> Verdict
-    requires { ⌜ r .line < 4294967295 ⌝ }
+    requires { ⌜ r .line < mostWord ⌝ }
     ensures { λ x. ⌜ x ≡ nextOf r e ⌝ }
 {
     Verdict::Go(onward(r), e)
 }
 
+pub fn branch(w: u32, yes: Thread, no: Thread) -> Verdict
+    ensures { λ x. ⌜ x ≡ branchOf w yes no ⌝ }
+{
+    let e = nothing();
+    either(w == 0, Verdict::Go(yes, e), Verdict::Go(no, e))
+}
+
 pub fn worn(w: u32) -> u32
     ensures { λ x. ⌜ x ≡ wornOf w ⌝ }
 {
-    if w < 4294967295 { w + 1 } else { w }
+    if w < MOST_WORD { w + 1 } else { w }
 }
 
 pub fn moved(h: u32) -> u32
     ensures { λ x. ⌜ x ≡ movedOf h ⌝ }
 {
     if h == 0 { 0 } else { 1 }
+}
+
+// The number or block that a word names.
+pub fn named(w: u32) -> u32
+    ensures { λ x. ⌜ x ≡ namedOf w ⌝ }
+{
+    if w == 0 { 0 } else { w - 1 }
 }
 
 pub fn answer(a: Answer, r: Thread) -> u32

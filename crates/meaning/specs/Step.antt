@@ -103,6 +103,10 @@ take w v = cond (free w) v Blocked
 abbrev pub next : Thread → Effect → Verdict
 next r e = Go (onward r) e
 
+-- to one record where the word is free, to another where it isn't
+abbrev pub branch : ℕ → Thread → Thread → Verdict
+branch w r r' = cond (free w) (Go r nothing) (Go r' nothing)
+
 -- "Wear at 4,294,967,295 stays there."
 abbrev pub worn : ℕ → ℕ
 worn w = cond (ltb w mostWord) (w + 1) w
@@ -142,13 +146,10 @@ perform OwnHeaders s t r = need (free (s .owner)) (next r (onOwner (by t)))
 perform LetGoHeaders s t r = need (heldBy t (s .owner)) (next r (onOwner none))
 perform (Own b) s t r = need (free (s .own (block b r))) (next r (onOwn (block b r) (by t)))
 perform (LetGo b) s t r = need (heldBy t (s .own (block b r))) (next r (onOwn (block b r) none))
-perform (GoIfMapped l) s t r =
-    cond (free (s .map (r .n))) (next r nothing) (Go (goto l (setP (named (s .map (r .n))) r)) nothing)
-perform (GoIfUnmapped l) s t r =
-    cond (free (s .map (r .n))) (Go (goto l r) nothing) (next (setP (named (s .map (r .n))) r) nothing)
-perform (EmptyIfUnmapped l) s t r =
-    cond (free (s .map (r .n))) (Go (goto l (setC 0 r)) nothing) (next (setP (named (s .map (r .n))) r) nothing)
-perform (GoIfFree l) s t r = cond (free (r .h)) (Go (goto l r) nothing) (next (setN (named (r .h)) r) nothing)
+perform (GoIfMapped l) s t r = branch (s .map (r .n)) (onward r) (setP (named (s .map (r .n))) (goto l r))
+perform (GoIfUnmapped l) s t r = branch (s .map (r .n)) (goto l r) (setP (named (s .map (r .n))) (onward r))
+perform (EmptyIfUnmapped l) s t r = branch (s .map (r .n)) (setC 0 (goto l r)) (setP (named (s .map (r .n))) (onward r))
+perform (GoIfFree l) s t r = branch (r .h) (goto l r) (setN (named (r .h)) (onward r))
 perform PickFree s t r =
     need (heldBy t (s .owner)) (need (ltb (lowestFree (s .header) (s .blocks)) (s .blocks))
     (next (setP (lowestFree (s .header) (s .blocks)) r) nothing))

@@ -1,11 +1,9 @@
 // The step machine on the working store: the searches, what a line would do (`perform`, `judge`) and doing it (`settle`).
 // The definitions are those of the crate meaning, specs/Choosing.antt and specs/Step.antt.
 ghost use mathlib.Core.Path.{_≡_};
-ghost use mathlib.Core.Bool.{cond};
-ghost use Prim.Native.Nat.{_+_, _<_, _≤_};
+ghost use Prim.Native.Nat.{_<_, _≤_};
 ghost use Rattle.meaning.specs.Store.{Store as StoreOf};
-ghost use Rattle.meaning.specs.Limits.{mostThreads, mostNumbers, mostBlocks, mostWord};
-ghost use Rattle.meaning.specs.Holding.{free};
+ghost use Rattle.meaning.specs.Limits.{mostNumbers, mostBlocks, mostWord};
 ghost use Rattle.meaning.specs.Programs.{actAt};
 ghost use Rattle.meaning.specs.Choosing.{lowestFree, challenge, toBlock, leastWorn, fromBlock};
 ghost use Rattle.meaning.specs.Step.{perform as performOf, apply as applyOf};

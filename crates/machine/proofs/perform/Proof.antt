@@ -113,34 +113,26 @@ returns-25 c = λ s e g. rw (c .before .before .before .before .act10 .given .1)
 returns-26 : tie.Need-returns-26
 returns-26 c = λ s e g. rw (c .before .before .enum-told16 .given .1) (simp (c .next17 .ensures, c .before .on-map2 .ensures))
 
+-- what a call of a function that requires nothing asks
+easy : {A B : Type 0} → A → B → Unit {0}
+easy c κs = tt
+
 pub perform-spec : {M : Type 1} → statement M
 perform-spec =
     tie.close
-    (tie.spec (λ c. search needs) (λ c. search needs) (λ c. search needs) (λ c κs. search needs) (λ c κs. search needs)
-    (λ c κs. search needs) (λ c. search needs) (λ c κs. search needs) (λ c κs. search needs) (λ c κs. search needs)
-    (λ c. search needs) (λ c κs. search needs) (λ c κs. search needs) (λ c κs. search needs) (λ c. search needs)
-    (λ c κs. search needs) (λ c κs. search needs) (λ c κs. search needs) (λ c. search needs) (λ c κs. search needs)
-    (λ c κs. search needs) (λ c κs. search needs) (λ c. search needs) (λ c κs. search needs) (λ c κs. search needs)
-    (λ c κs. search needs) (λ c. search needs) (λ c κs. search needs) (λ c κs. search needs) (λ c κs. search needs)
-    (λ c. search needs) (λ c κs. search needs) (λ c κs. search needs) (λ c κs. search needs) (λ c. search needs)
-    (λ c κs. search needs) (λ c κs. search needs) (λ c κs. search needs) (λ c κs. search needs) (λ c κs. search needs)
-    (λ c. search needs) (λ c κs. search needs) (λ c κs. search needs) (λ c κs. search needs) (λ c κs. search needs)
-    (λ c κs. search needs) (λ c. search needs) (λ c κs. search needs) (λ c κs. search needs) (λ c κs. search needs)
-    (λ c κs. search needs) (λ c κs. search needs) (λ c. search needs) (λ c κs. search needs) (λ c κs. search needs)
-    (λ c κs. search needs) (λ c κs. search needs) (λ c κs. search needs) (λ c. search needs) (λ c κs. search needs)
-    (λ c κs. search needs) (λ c κs. search needs) (λ c κs. search needs) (λ c κs. search needs) (λ c κs. search needs)
-    (λ c. search needs) (λ c κs. search needs) (λ c κs. search needs) (λ c κs. search needs) (λ c κs. search needs)
-    (λ c κs. search needs) (λ c. search needs) (λ c κs. search needs) (λ c κs. search needs) (λ c. search needs)
-    (λ c κs. search needs) (λ c κs. search needs) (λ c. search needs) (λ c κs. search needs) (λ c κs. search needs)
-    next-requires-9 (λ c κs. search needs) (λ c. search needs) (λ c κs. search needs) (λ c. search needs)
-    (λ c κs. search needs) (λ c κs. search needs) (λ c κs. search needs) (λ c. search needs) (λ c κs. search needs)
-    (λ c κs. search needs) (λ c κs. search needs) (λ c κs. search needs) (λ c. search needs) (λ c κs. search needs)
-    (λ c κs. search needs) (λ c κs. search needs) (λ c κs. search needs) (λ c κs. search needs) (λ c. search needs)
-    (λ c κs. search needs) (λ c κs. search needs) (λ c κs. search needs) (λ c κs. search needs) (λ c. search needs)
-    (λ c κs. search needs) (λ c κs. search needs) (λ c κs. search needs) next-requires-14 (λ c κs. search needs)
-    (λ c. search needs) (λ c κs. search needs) (λ c κs. search needs) (λ c κs. search needs) (λ c κs. search needs)
-    (λ c κs. search needs) (λ c. search needs) (λ c κs. search needs) add-on-map (λ c κs. search needs)
-    (λ c κs. search needs) (λ c. search needs) (λ c κs. search needs) (λ c κs. search needs) returns returns-2
-    returns-3 returns-4 returns-5 returns-6 returns-7 returns-8 returns-9 returns-10 returns-11 returns-12 returns-13
-    returns-14 returns-15 returns-16 returns-17 returns-18 returns-19 returns-20 returns-21 returns-22 returns-23
-    returns-24 returns-25 returns-26)
+    (tie.spec (λ c. search needs) (λ c. search needs) (λ c. search needs) easy (λ c κs. search needs) easy
+    (λ c. search needs) easy (λ c κs. search needs) easy (λ c. search needs) easy easy easy (λ c. search needs) easy
+    (λ c κs. search needs) easy (λ c. search needs) easy (λ c κs. search needs) easy (λ c. search needs) easy easy easy
+    (λ c. search needs) easy (λ c κs. search needs) easy (λ c. search needs) easy (λ c κs. search needs) easy
+    (λ c. search needs) easy easy easy (λ c κs. search needs) easy (λ c. search needs) easy easy easy
+    (λ c κs. search needs) easy (λ c. search needs) (λ c κs. search needs) easy easy easy easy (λ c. search needs) easy
+    easy (λ c κs. search needs) easy easy (λ c. search needs) easy easy easy (λ c κs. search needs) easy easy
+    (λ c. search needs) easy easy (λ c κs. search needs) easy easy (λ c. search needs) (λ c κs. search needs) easy
+    (λ c. search needs) (λ c κs. search needs) easy (λ c. search needs) easy easy next-requires-9 easy
+    (λ c. search needs) easy (λ c. search needs) easy (λ c κs. search needs) easy (λ c. search needs) easy easy
+    (λ c κs. search needs) easy (λ c. search needs) easy easy easy (λ c κs. search needs) easy (λ c. search needs) easy
+    easy (λ c κs. search needs) easy (λ c. search needs) easy easy easy next-requires-14 easy (λ c. search needs) easy
+    easy easy (λ c κs. search needs) easy (λ c. search needs) easy add-on-map easy (λ c κs. search needs)
+    (λ c. search needs) easy (λ c κs. search needs) returns returns-2 returns-3 returns-4 returns-5 returns-6 returns-7
+    returns-8 returns-9 returns-10 returns-11 returns-12 returns-13 returns-14 returns-15 returns-16 returns-17
+    returns-18 returns-19 returns-20 returns-21 returns-22 returns-23 returns-24 returns-25 returns-26)

@@ -63,6 +63,9 @@ pub struct Near {
     pub own_q: u32,
 }
 
+// A word for each block.
+type Table = [u32; Store::MAX_P];
+
 // ---- searches among the blocks
 
 // W5: the lowest-numbered free block, or how many blocks there are where none is free.
@@ -218,7 +221,7 @@ fn header_of(x: Near, b: Reg) -> u32
     }
 }
 
-// What writing that header needs, and what a line on the block's content needs. `me` is the word of what the thread owns.
+// What writing that header needs, and what a line on the block's content needs.
 fn heads(x: Near, me: u32, b: Reg) -> bool
     ensures { λ r. ⌜ r ≡ headsOf x me b ⌝ }
 {
@@ -232,15 +235,13 @@ fn touches(x: Near, me: u32, b: Reg) -> bool
 }
 
 // W5, where the headers are owned.
-fn pick(header: &[u32; Store::MAX_P], blocks: u32, r: Thread) -> Verdict
+fn pick(header: &Table, blocks: u32, r: Thread) -> Verdict
     requires { ⌜ (blocks ≤ mostBlocks) × (r .line < mostWord) ⌝ }
     ensures { λ v. ⌜ v ≡ pickedOf (table (now (header .entry))) blocks r ⌝ }
 {
     let p = lowest_free(header, blocks);
     need(p < blocks, next(set_p(p, r), nothing()))
 }
-
-type Table = [u32; Store::MAX_P];
 
 // What a line may look at, the searches' tables left out: the words near, how many blocks there are, and the levelling distance.
 struct Sight {
@@ -249,7 +250,7 @@ struct Sight {
     distance: u32,
 }
 
-// What the act would do: an arm an act, as in specs/Step.antt.
+// What the act would do: an arm an act, as in specs/Step.antt. `me` is the word of what thread t holds or owns.
 fn perform<'a>(act: Act, t: u32, r: Thread, v: Sight, header: &'a Table, wear: &'a Table) -> Verdict
     requires { ⌜ Steady t r × (v .blocks ≤ mostBlocks) ⌝ }
     ensures { λ y. ⌜ ((s : StoreOf) → Sees s r (v .near) → Searches s (table (now (header .entry))) (table (now (wear .entry))) (v .blocks) (v .distance) → y ≡ performOf act s t r) ⌝ }

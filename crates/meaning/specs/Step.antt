@@ -105,7 +105,7 @@ next r e = Go (onward r) e
 
 -- to one record where the word is free, to another where it isn't
 abbrev pub branch : ℕ → Thread → Thread → Verdict
-branch w r r' = cond (free w) (Go r nothing) (Go r' nothing)
+branch w r r′ = cond (free w) (Go r nothing) (Go r′ nothing)
 
 -- "Wear at 4,294,967,295 stays there."
 abbrev pub worn : ℕ → ℕ
@@ -180,9 +180,9 @@ abbrev pub put : Entry → (ℕ → ℕ) → ℕ → ℕ
 put Keep f = f
 put (Put i w) f = upd f i w
 
--- the store with t's record and an effect
-abbrev pub apply : Store → ℕ → Thread → Effect → Store
-apply s t r e =
+-- the store with these records of its threads, and an effect
+abbrev pub changed : Store → (ℕ → Thread) → Effect → Store
+changed s records e =
     record {
       threads = s .threads;
       numbers = s .numbers;
@@ -190,7 +190,7 @@ apply s t r e =
       distance = s .distance;
       lock = become (e .lock) (s .lock);
       owner = become (e .owner) (s .owner);
-      thread = upd (s .thread) t r;
+      thread = records;
       map = put (e .map) (s .map);
       locks = put (e .locks) (s .locks);
       header = put (e .header) (s .header);
@@ -198,3 +198,7 @@ apply s t r e =
       wear = put (e .wear) (s .wear);
       own = put (e .own) (s .own);
     }
+
+-- the store with t's record and an effect
+abbrev pub apply : Store → ℕ → Thread → Effect → Store
+apply s t r e = changed s (upd (s .thread) t r) e

@@ -1,18 +1,27 @@
 // The programs as tables, and the small by-value functions that a line is made of: records, effects, verdicts. Each is the definition
-// of the same name in the crate meaning (specs/Programs.antt, specs/Step.antt).
+// of the same name in the crate meaning (specs/Programs.antt, specs/Holding.antt, specs/Step.antt).
 ghost use mathlib.Core.Path.{_≡_};
 ghost use mathlib.Core.Bool.{cond};
 ghost use Prim.Native.Nat.{_+_, _<_, _≤_};
+ghost use Rattle.meaning.specs.Limits.{mostWord};
+ghost use Rattle.meaning.specs.Holding.{named as namedOf};
 ghost use Rattle.meaning.specs.Programs.{actAt, lastLine};
-ghost use Rattle.meaning.specs.Step.{goto as gotoOf, onward as onwardOf, setN, setC, setP, setQ, setH, block as blockOf, nothing as nothingOf, onLock, onOwner, onMap, onLocks, onHeader, onContent, onFreed, onOwn, need as needOf, next as nextOf, worn as wornOf, moved as movedOf, answer as answerOf};
+ghost use Rattle.meaning.specs.Step.{goto as gotoOf, onward as onwardOf, setN, setC, setP, setQ, setH, block as blockOf, effect as effectOf, nothing as nothingOf, onLock, onOwner, onMap, onLocks, onHeader, onContent, onFreed, onOwn, need as needOf, take as takeOf, next as nextOf, branch as branchOf, worn as wornOf, moved as movedOf, answer as answerOf};
 use meaning::Act;
 use meaning::Answer;
 use meaning::Effect;
 use meaning::Entry;
+use meaning::Entry::Keep;
+use meaning::Entry::Put;
 use meaning::Reg;
 use meaning::Thread;
 use meaning::Verdict;
 use meaning::Word;
+use meaning::Word::Become;
+use meaning::Word::Stay;
+
+// The largest word, at which wear stays.
+const MOST_WORD: u32 = 4294967295;
 
 // ---- document 01, "The lines"
 
@@ -105,7 +114,7 @@ pub fn goto(l: u32, r: Thread) -> Thread
 }
 
 pub fn onward(r: Thread) -> Thread
-    requires { ⌜ r .line < 4294967295 ⌝ }
+    requires { ⌜ r .line < mostWord ⌝ }
     ensures { λ x. ⌜ x ≡ onwardOf r ⌝ }
 {
     goto(r.line + 1, r)
@@ -162,173 +171,135 @@ pub fn block(b: Reg, r: Thread) -> u32
 
 // ---- effects
 
+fn effect(
+    lock: Word,
+    owner: Word,
+    map: Entry,
+    locks: Entry,
+    header: Entry,
+    content: Entry,
+    wear: Entry,
+    own: Entry,
+) -> Effect
+    ensures { λ e. ⌜ e ≡ effectOf lock owner map locks header content wear own ⌝ }
+{
+    Effect {
+        lock,
+        owner,
+        map,
+        locks,
+        header,
+        content,
+        wear,
+        own,
+    }
+}
+
 pub fn nothing() -> Effect
     ensures { λ e. ⌜ e ≡ nothingOf ⌝ }
 {
-    Effect {
-        lock: Word::Stay,
-        owner: Word::Stay,
-        map: Entry::Keep,
-        locks: Entry::Keep,
-        header: Entry::Keep,
-        content: Entry::Keep,
-        wear: Entry::Keep,
-        own: Entry::Keep,
-    }
+    effect(Stay, Stay, Keep, Keep, Keep, Keep, Keep, Keep)
 }
 
 pub fn on_lock(w: u32) -> Effect
     ensures { λ e. ⌜ e ≡ onLock w ⌝ }
 {
-    Effect {
-        lock: Word::Become(w),
-        owner: Word::Stay,
-        map: Entry::Keep,
-        locks: Entry::Keep,
-        header: Entry::Keep,
-        content: Entry::Keep,
-        wear: Entry::Keep,
-        own: Entry::Keep,
-    }
+    effect(Become(w), Stay, Keep, Keep, Keep, Keep, Keep, Keep)
 }
 
 pub fn on_owner(w: u32) -> Effect
     ensures { λ e. ⌜ e ≡ onOwner w ⌝ }
 {
-    Effect {
-        lock: Word::Stay,
-        owner: Word::Become(w),
-        map: Entry::Keep,
-        locks: Entry::Keep,
-        header: Entry::Keep,
-        content: Entry::Keep,
-        wear: Entry::Keep,
-        own: Entry::Keep,
-    }
+    effect(Stay, Become(w), Keep, Keep, Keep, Keep, Keep, Keep)
 }
 
 pub fn on_map(n: u32, w: u32) -> Effect
     ensures { λ e. ⌜ e ≡ onMap n w ⌝ }
 {
-    Effect {
-        lock: Word::Stay,
-        owner: Word::Stay,
-        map: Entry::Put(n, w),
-        locks: Entry::Keep,
-        header: Entry::Keep,
-        content: Entry::Keep,
-        wear: Entry::Keep,
-        own: Entry::Keep,
-    }
+    effect(Stay, Stay, Put(n, w), Keep, Keep, Keep, Keep, Keep)
 }
 
 pub fn on_locks(n: u32, w: u32) -> Effect
     ensures { λ e. ⌜ e ≡ onLocks n w ⌝ }
 {
-    Effect {
-        lock: Word::Stay,
-        owner: Word::Stay,
-        map: Entry::Keep,
-        locks: Entry::Put(n, w),
-        header: Entry::Keep,
-        content: Entry::Keep,
-        wear: Entry::Keep,
-        own: Entry::Keep,
-    }
+    effect(Stay, Stay, Keep, Put(n, w), Keep, Keep, Keep, Keep)
 }
 
 pub fn on_header(m: u32, w: u32) -> Effect
     ensures { λ e. ⌜ e ≡ onHeader m w ⌝ }
 {
-    Effect {
-        lock: Word::Stay,
-        owner: Word::Stay,
-        map: Entry::Keep,
-        locks: Entry::Keep,
-        header: Entry::Put(m, w),
-        content: Entry::Keep,
-        wear: Entry::Keep,
-        own: Entry::Keep,
-    }
+    effect(Stay, Stay, Keep, Keep, Put(m, w), Keep, Keep, Keep)
 }
 
 pub fn on_content(m: u32, w: u32) -> Effect
     ensures { λ e. ⌜ e ≡ onContent m w ⌝ }
 {
-    Effect {
-        lock: Word::Stay,
-        owner: Word::Stay,
-        map: Entry::Keep,
-        locks: Entry::Keep,
-        header: Entry::Keep,
-        content: Entry::Put(m, w),
-        wear: Entry::Keep,
-        own: Entry::Keep,
-    }
+    effect(Stay, Stay, Keep, Keep, Keep, Put(m, w), Keep, Keep)
 }
 
 pub fn on_freed(m: u32, w: u32) -> Effect
     ensures { λ e. ⌜ e ≡ onFreed m w ⌝ }
 {
-    Effect {
-        lock: Word::Stay,
-        owner: Word::Stay,
-        map: Entry::Keep,
-        locks: Entry::Keep,
-        header: Entry::Put(m, 0),
-        content: Entry::Keep,
-        wear: Entry::Put(m, w),
-        own: Entry::Keep,
-    }
+    effect(Stay, Stay, Keep, Keep, Put(m, 0), Keep, Put(m, w), Keep)
 }
 
 pub fn on_own(m: u32, w: u32) -> Effect
     ensures { λ e. ⌜ e ≡ onOwn m w ⌝ }
 {
-    Effect {
-        lock: Word::Stay,
-        owner: Word::Stay,
-        map: Entry::Keep,
-        locks: Entry::Keep,
-        header: Entry::Keep,
-        content: Entry::Keep,
-        wear: Entry::Keep,
-        own: Entry::Put(m, w),
-    }
+    effect(Stay, Stay, Keep, Keep, Keep, Keep, Keep, Put(m, w))
 }
 
 // ---- verdicts
 
+fn either(first: bool, v: Verdict, w: Verdict) -> Verdict
+    ensures { λ x. ⌜ x ≡ cond first v w ⌝ }
+{
+    if first { v } else { w }
+}
+
 pub fn need(met: bool, v: Verdict) -> Verdict
     ensures { λ x. ⌜ x ≡ needOf met v ⌝ }
 {
-    if met { v } else { Verdict::Fault }
+    either(met, v, Verdict::Fault)
 }
 
-// `is_free` says whether the lock is.
-pub fn take(is_free: bool, v: Verdict) -> Verdict
-    ensures { λ x. ⌜ x ≡ cond «is_free» v Verdict.Blocked ⌝ }
+pub fn take(w: u32, v: Verdict) -> Verdict
+    ensures { λ x. ⌜ x ≡ takeOf w v ⌝ }
 {
-    if is_free { v } else { Verdict::Blocked }
+    either(w == 0, v, Verdict::Blocked)
 }
 
 pub fn next(r: Thread, e: Effect) -> Verdict
-    requires { ⌜ r .line < 4294967295 ⌝ }
+    requires { ⌜ r .line < mostWord ⌝ }
     ensures { λ x. ⌜ x ≡ nextOf r e ⌝ }
 {
     Verdict::Go(onward(r), e)
 }
 
+pub fn branch(w: u32, yes: Thread, no: Thread) -> Verdict
+    ensures { λ x. ⌜ x ≡ branchOf w yes no ⌝ }
+{
+    let e = nothing();
+    either(w == 0, Verdict::Go(yes, e), Verdict::Go(no, e))
+}
+
 pub fn worn(w: u32) -> u32
     ensures { λ x. ⌜ x ≡ wornOf w ⌝ }
 {
-    if w < 4294967295 { w + 1 } else { w }
+    if w < MOST_WORD { w + 1 } else { w }
 }
 
 pub fn moved(h: u32) -> u32
     ensures { λ x. ⌜ x ≡ movedOf h ⌝ }
 {
     if h == 0 { 0 } else { 1 }
+}
+
+// The number or block that a word names.
+pub fn named(w: u32) -> u32
+    ensures { λ x. ⌜ x ≡ namedOf w ⌝ }
+{
+    if w == 0 { 0 } else { w - 1 }
 }
 
 pub fn answer(a: Answer, r: Thread) -> u32

@@ -1,8 +1,8 @@
 -- What the functions that judge a step take for granted, and the store that they are given as words and arrays.
 use mathlib.Core.Path.{_≡_}
-use mathlib.Core.Bool.{Bool, cond}
+use mathlib.Core.Bool.{Bool, not, cond, _&&_}
 use mathlib.Core.List.{List}
-use lib.Dec.{ltb}
+use lib.Dec.{eqb, ltb}
 use Prim.Native.Nat.{ℕ, _+_, _-_, _<_, _≤_}
 use Rattle.meaning.specs.declared.Thread.{Thread}
 use Rattle.meaning.specs.declared.Found.{Found}
@@ -14,7 +14,7 @@ use Rattle.meaning.specs.declared.Verdict.{Verdict}
 use Rattle.meaning.specs.declared.Verdict.the-variants.{Fault}
 use Rattle.meaning.specs.declared.Reg.{Reg}
 use Rattle.meaning.specs.declared.Reg.the-variants.{P, Q}
-use Rattle.meaning.specs.Holding.{free, heldBy}
+use Rattle.meaning.specs.Holding.{free}
 use Rattle.meaning.specs.Choosing.{lowestFree, toBlock, leastWorn, fromBlock}
 use Rattle.meaning.specs.Step.{need, next, setP, setQ, nothing}
 use Rattle.store.specs.Live.{headers, contents, wears, owners}
@@ -78,20 +78,25 @@ nearOf r lock owner map locks records =
       «own_q» = owners records (r .q);
     }
 
--- W5's verdict of the headers, their owner and how many blocks there are
-abbrev pub pickedOf : (ℕ → ℕ) → ℕ → ℕ → ℕ → Thread → Verdict
-pickedOf header blocks owner t r =
-    need (heldBy t owner)
-    (need (ltb (lowestFree header blocks) blocks) (next (setP (lowestFree header blocks) r) nothing))
+-- W5's verdict where the headers are owned, of the headers and how many blocks there are
+abbrev pub pickedOf : (ℕ → ℕ) → ℕ → Thread → Verdict
+pickedOf header blocks r = need (ltb (lowestFree header blocks) blocks) (next (setP (lowestFree header blocks) r) nothing)
 
--- the one of two values, or of two tests, that the register picks
-abbrev pub ofReg : Reg → ℕ → ℕ → ℕ
-ofReg P p q = p
-ofReg Q p q = q
+-- the owner and the header of the block that a register picks
+abbrev pub ownOf : Near → Reg → ℕ
+ownOf x P = x .«own_p»
+ownOf x Q = x .«own_q»
 
-abbrev pub touchesOf : Reg → Bool → Bool → Bool
-touchesOf P p q = p
-touchesOf Q p q = q
+abbrev pub headerOf : Near → Reg → ℕ
+headerOf x P = x .«header_p»
+headerOf x Q = x .«header_q»
+
+-- `heads` and `touches` of specs/Step.antt in the words near; `me` is the word of what the thread owns
+abbrev pub headsOf : Near → ℕ → Reg → Bool
+headsOf x me b = eqb (x .owner) me && eqb (ownOf x b) me
+
+abbrev pub touchesOf : Near → ℕ → Reg → Bool
+touchesOf x me b = eqb (ownOf x b) me && not (free (headerOf x b))
 
 -- the numbers of a working thread's record, as constants bound them
 pub record Steady (t : ℕ) (r : Thread) : Type 0 where

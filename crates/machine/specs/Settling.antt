@@ -8,6 +8,7 @@ use Rattle.meaning.specs.declared.Entry.{Entry}
 use Rattle.meaning.specs.declared.Entry.the-variants.{Keep}
 use Rattle.meaning.specs.declared.Effect.{Effect}
 use Rattle.meaning.specs.Store.{Store}
+use Rattle.meaning.specs.Step.{effect}
 use Rattle.store.specs.Area.{Bytes, decode}
 use Rattle.store.specs.Live.{Live, EntryBelow}
 
@@ -28,27 +29,7 @@ pub record Reached (a b : List ℕ) (t n p : ℕ) (s : Store) : Type 0 where
 
 -- what touches no block, and what touches nothing else
 abbrev pub unblocked : Word → Word → Entry → Entry → Effect
-unblocked lock owner map locks =
-    record {
-      lock = lock;
-      owner = owner;
-      map = map;
-      locks = locks;
-      header = Keep;
-      content = Keep;
-      wear = Keep;
-      own = Keep;
-    }
+unblocked lock owner map locks = effect lock owner map locks Keep Keep Keep Keep
 
 abbrev pub onBlocks : Entry → Entry → Entry → Entry → Effect
-onBlocks header content wear own =
-    record {
-      lock = Stay;
-      owner = Stay;
-      map = Keep;
-      locks = Keep;
-      header = header;
-      content = content;
-      wear = wear;
-      own = own;
-    }
+onBlocks header content wear own = effect Stay Stay Keep Keep header content wear own

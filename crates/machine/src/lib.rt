@@ -1,25 +1,51 @@
 // The step machine on the working store: the searches, what a line would do (`perform`, `judge`) and doing it (`settle`).
 // The definitions are those of the crate meaning, specs/Choosing.antt and specs/Step.antt.
 ghost use mathlib.Core.Path.{_≡_};
-ghost use mathlib.Core.Bool.{cond};
-ghost use Prim.Native.Nat.{_+_, _<_, _≤_};
+ghost use Prim.Native.Nat.{_<_, _≤_};
 ghost use Rattle.meaning.specs.Store.{Store as StoreOf};
-ghost use Rattle.meaning.specs.Limits.{mostThreads, mostNumbers, mostBlocks, mostWord};
-ghost use Rattle.meaning.specs.Holding.{free, named as namedOf};
+ghost use Rattle.meaning.specs.Limits.{mostNumbers, mostBlocks, mostWord};
 ghost use Rattle.meaning.specs.Programs.{actAt};
 ghost use Rattle.meaning.specs.Choosing.{lowestFree, fromBlock};
 ghost use Rattle.meaning.specs.Step.{perform as performOf, apply as applyOf};
 ghost use Rattle.store.specs.Live.{table, headers, wears, Live, EntryBelow, made};
 ghost use Rattle.machine.specs.Settling.{Places, Reached, unblocked, onBlocks};
 ghost use Rattle.store.specs.Area.{decode};
-ghost use Rattle.machine.specs.Judging.{placeOf, weightOf, soughtBy, chosenOf, pickedOf, ofReg, touchesOf, Sees, Searches, nearOf, Steady, AtLine};
+ghost use Rattle.machine.specs.Judging.{placeOf, weightOf, soughtBy, chosenOf, pickedOf, ownOf, headerOf, headsOf, touchesOf, Sees, Searches, nearOf, Steady, AtLine};
+use acts::answer;
+use acts::block;
+use acts::branch;
+use acts::goto;
+use acts::named;
+use acts::need;
+use acts::next;
+use acts::nothing;
+use acts::on_content;
+use acts::on_freed;
+use acts::on_header;
+use acts::on_lock;
+use acts::on_locks;
+use acts::on_map;
+use acts::on_own;
+use acts::on_owner;
+use acts::onward;
+use acts::set_c;
+use acts::set_h;
+use acts::set_n;
+use acts::set_p;
+use acts::take;
+use acts::worn;
 use meaning::Act;
+use meaning::Act::*;
 use meaning::Effect;
 use meaning::Entry;
 use meaning::Found;
 use meaning::Reg;
+use meaning::Reg::P;
+use meaning::Reg::Q;
 use meaning::Thread;
 use meaning::Verdict;
+use meaning::Verdict::Done;
+use meaning::Verdict::Fault;
 use meaning::Word;
 use store::Store;
 
@@ -37,10 +63,13 @@ pub struct Near {
     pub own_q: u32,
 }
 
+// The words of all block records.
+type Records = [u32; Store::BLOCK_CELLS];
+
 // ---- searches among the block records
 
 // W5: the lowest-numbered free block, or how many blocks there are where none is free.
-fn lowest_free(records: &[u32; Store::BLOCK_CELLS], blocks: u32) -> u32
+fn lowest_free(records: &Records, blocks: u32) -> u32
     requires { ⌜ blocks ≤ mostBlocks ⌝ }
     ensures { λ r. ⌜ r ≡ lowestFree (headers (now (records .entry))) blocks ⌝ }
 {
@@ -78,7 +107,7 @@ fn weight(b: Reg, header: u32, wear: u32) -> u64
 }
 
 // L3's "from", for p, or "to", for q: the lowest number on ties.
-fn heaviest(b: Reg, records: &[u32; Store::BLOCK_CELLS], blocks: u32) -> Found
+fn heaviest(b: Reg, records: &Records, blocks: u32) -> Found
     requires { ⌜ blocks ≤ mostBlocks ⌝ }
     ensures { λ r. ⌜ r ≡ soughtBy b (headers (now (records .entry))) (wears (now (records .entry))) blocks ⌝ }
 {
@@ -102,7 +131,7 @@ fn heaviest(b: Reg, records: &[u32; Store::BLOCK_CELLS], blocks: u32) -> Found
 }
 
 // "If there is no mapped block, or wear of 'to' is less than wear of 'from' plus D, then 'from' becomes 'to'": the sum doesn't wrap.
-fn from_block(records: &[u32; Store::BLOCK_CELLS], distance: u32, to: u32, found: Found) -> u32
+fn from_block(records: &Records, distance: u32, to: u32, found: Found) -> u32
     requires { ⌜ (to < mostBlocks) × (placeOf found < mostBlocks) ⌝ }
     ensures { λ r. ⌜ r ≡ fromBlock (wears (now (records .entry))) distance to found ⌝ }
 {
@@ -120,7 +149,7 @@ fn from_block(records: &[u32; Store::BLOCK_CELLS], distance: u32, to: u32, found
 }
 
 // L3, where the headers are owned.
-fn choose(records: &[u32; Store::BLOCK_CELLS], blocks: u32, distance: u32, r: Thread) -> Verdict
+fn choose(records: &Records, blocks: u32, distance: u32, r: Thread) -> Verdict
     requires { ⌜ (blocks ≤ mostBlocks) × (r .line < mostWord) ⌝ }
     ensures { λ v. ⌜ v ≡ chosenOf (headers (now (records .entry))) (wears (now (records .entry))) blocks distance r ⌝ }
 {
@@ -137,134 +166,88 @@ fn choose(records: &[u32; Store::BLOCK_CELLS], blocks: u32, distance: u32, r: Th
 
 // ---- what a line would do
 
-fn of_reg(b: Reg, p: u32, q: u32) -> u32
-    ensures { λ r. ⌜ r ≡ ofReg b p q ⌝ }
+// The owner and the header of the block that the register picks.
+fn own_of(x: Near, b: Reg) -> u32
+    ensures { λ r. ⌜ r ≡ ownOf x b ⌝ }
 {
     match b {
-        Reg::P => p,
-        Reg::Q => q,
+        P => x.own_p,
+        Q => x.own_q,
     }
 }
 
-fn touches(b: Reg, p: bool, q: bool) -> bool
-    ensures { λ r. ⌜ r ≡ touchesOf b p q ⌝ }
+fn header_of(x: Near, b: Reg) -> u32
+    ensures { λ r. ⌜ r ≡ headerOf x b ⌝ }
 {
     match b {
-        Reg::P => p,
-        Reg::Q => q,
+        P => x.header_p,
+        Q => x.header_q,
     }
 }
 
-fn either(first: bool, v: Verdict, w: Verdict) -> Verdict
-    ensures { λ r. ⌜ r ≡ cond first v w ⌝ }
+// What writing that header needs, and what a line on the block's content needs.
+fn heads(x: Near, me: u32, b: Reg) -> bool
+    ensures { λ r. ⌜ r ≡ headsOf x me b ⌝ }
 {
-    if first { v } else { w }
+    (x.owner == me) & (own_of(x, b) == me)
 }
 
-// The number or block that a word names.
-fn named(w: u32) -> u32
-    ensures { λ r. ⌜ r ≡ namedOf w ⌝ }
+fn touches(x: Near, me: u32, b: Reg) -> bool
+    ensures { λ r. ⌜ r ≡ touchesOf x me b ⌝ }
 {
-    if w == 0 { 0 } else { w - 1 }
+    (own_of(x, b) == me) & (header_of(x, b) != 0)
 }
 
-// W5.
-fn pick(records: &[u32; Store::BLOCK_CELLS], blocks: u32, owner: u32, t: u32, r: Thread) -> Verdict
-    requires { ⌜ (blocks ≤ mostBlocks) × (t < mostThreads) × (r .line < mostWord) ⌝ }
-    ensures { λ v. ⌜ v ≡ pickedOf (headers (now (records .entry))) blocks owner t r ⌝ }
+// W5, where the headers are owned.
+fn pick(records: &Records, blocks: u32, r: Thread) -> Verdict
+    requires { ⌜ (blocks ≤ mostBlocks) × (r .line < mostWord) ⌝ }
+    ensures { λ v. ⌜ v ≡ pickedOf (headers (now (records .entry))) blocks r ⌝ }
 {
     let p = lowest_free(records, blocks);
-    let on = acts::set_p(p, acts::onward(r));
-    acts::need(
-        owner == t + 1,
-        acts::need(p < blocks, Verdict::Go(on, acts::nothing())),
-    )
+    need(p < blocks, next(set_p(p, r), nothing()))
 }
 
-// What the act would do: an arm an act, as in specs/Step.antt. It looks at the words near its record and, where it searches, at all
-// block records.
-fn perform(
-    act: Act,
-    t: u32,
-    r: Thread,
-    x: Near,
-    records: &[u32; Store::BLOCK_CELLS],
+// What a line may look at, the searches' block records left out: the words near, how many blocks there are, and the levelling distance.
+struct Sight {
+    near: Near,
     blocks: u32,
     distance: u32,
-) -> Verdict
-    requires { ⌜ Steady t r × (blocks ≤ mostBlocks) ⌝ }
-    ensures { λ v. ⌜ ((s : StoreOf) → Sees s r x → Searches s (headers (now (records .entry))) (wears (now (records .entry))) blocks distance → v ≡ performOf act s t r) ⌝ }
+}
+
+// What the act would do: an arm an act, as in specs/Step.antt. `me` is the word of what thread t holds or owns.
+fn perform(act: Act, t: u32, r: Thread, v: Sight, records: &Records) -> Verdict
+    requires { ⌜ Steady t r × (v .blocks ≤ mostBlocks) ⌝ }
+    ensures { λ y. ⌜ ((s : StoreOf) → Sees s r (v .near) → Searches s (headers (now (records .entry))) (wears (now (records .entry))) (v .blocks) (v .distance) → y ≡ performOf act s t r) ⌝ }
 {
+    let x = v.near;
     let me = t + 1;
-    let on = acts::onward(r);
-    let none = acts::nothing();
-    let heads_p = (x.owner == me) & (x.own_p == me);
-    let touches_p = (x.own_p == me) & !(x.header_p == 0);
-    let touches_q = (x.own_q == me) & !(x.header_q == 0);
-    let found = Verdict::Go(acts::set_p(named(x.map), on), none);
     match act {
-        Act::Nothing => Verdict::Fault,
-        Act::TakeH => acts::take(x.lock == 0, Verdict::Go(on, acts::on_lock(me))),
-        Act::ReleaseH => acts::need(x.lock == me, Verdict::Go(on, acts::on_lock(0))),
-        Act::FinishH(a) => acts::need(
-            x.lock == me,
-            Verdict::Done(acts::answer(a, r), acts::on_lock(0)),
-        ),
-        Act::TakeN => acts::take(x.locks == 0, Verdict::Go(on, acts::on_locks(r.n, me))),
-        Act::ReleaseN => acts::need(x.locks == me, Verdict::Go(on, acts::on_locks(r.n, 0))),
-        Act::FinishN(a) => acts::need(
-            x.locks == me,
-            Verdict::Done(acts::answer(a, r), acts::on_locks(r.n, 0)),
-        ),
-        Act::OwnHeaders => acts::need(x.owner == 0, Verdict::Go(on, acts::on_owner(me))),
-        Act::LetGoHeaders => acts::need(x.owner == me, Verdict::Go(on, acts::on_owner(0))),
-        Act::Own(b) => acts::need(
-            of_reg(b, x.own_p, x.own_q) == 0,
-            Verdict::Go(on, acts::on_own(acts::block(b, r), me)),
-        ),
-        Act::LetGo(b) => acts::need(
-            of_reg(b, x.own_p, x.own_q) == me,
-            Verdict::Go(on, acts::on_own(acts::block(b, r), 0)),
-        ),
-        Act::GoIfMapped(l) => either(
-            x.map == 0,
-            Verdict::Go(on, none),
-            Verdict::Go(acts::goto(l, acts::set_p(named(x.map), r)), none),
-        ),
-        Act::GoIfUnmapped(l) => either(x.map == 0, Verdict::Go(acts::goto(l, r), none), found),
-        Act::EmptyIfUnmapped(l) => either(
-            x.map == 0,
-            Verdict::Go(acts::goto(l, acts::set_c(0, r)), none),
-            found,
-        ),
-        Act::GoIfFree(l) => either(
-            r.h == 0,
-            Verdict::Go(acts::goto(l, r), none),
-            Verdict::Go(acts::set_n(named(r.h), on), none),
-        ),
-        Act::PickFree => pick(records, blocks, x.owner, t, r),
-        Act::Choose => acts::need(x.owner == me, choose(records, blocks, distance, r)),
-        Act::ReadHeader => acts::need(
-            x.owner == me,
-            Verdict::Go(acts::set_h(x.header_p, on), none),
-        ),
-        Act::WriteHeaderN => acts::need(heads_p, Verdict::Go(on, acts::on_header(r.p, r.n + 1))),
-        Act::WriteHeaderH => acts::need(
-            (x.owner == me) & (x.own_q == me),
-            Verdict::Go(on, acts::on_header(r.q, r.h)),
-        ),
-        Act::FreeHeader => acts::need(
-            heads_p,
-            Verdict::Go(on, acts::on_freed(r.p, acts::worn(x.wear_p))),
-        ),
-        Act::EmptyContent => acts::need(touches_p, Verdict::Go(on, acts::on_content(r.p, 0))),
-        Act::ReadContent => acts::need(touches_p, Verdict::Go(acts::set_c(x.content_p, on), none)),
-        Act::WriteContent(b) => acts::need(
-            touches(b, touches_p, touches_q),
-            Verdict::Go(on, acts::on_content(acts::block(b, r), r.c)),
-        ),
-        Act::MapTo(b) => Verdict::Go(on, acts::on_map(r.n, acts::block(b, r) + 1)),
-        Act::Unmap => Verdict::Go(on, acts::on_map(r.n, 0)),
+        Nothing => Fault,
+        TakeH => take(x.lock, next(r, on_lock(me))),
+        ReleaseH => need(x.lock == me, next(r, on_lock(0))),
+        FinishH(a) => need(x.lock == me, Done(answer(a, r), on_lock(0))),
+        TakeN => take(x.locks, next(r, on_locks(r.n, me))),
+        ReleaseN => need(x.locks == me, next(r, on_locks(r.n, 0))),
+        FinishN(a) => need(x.locks == me, Done(answer(a, r), on_locks(r.n, 0))),
+        OwnHeaders => need(x.owner == 0, next(r, on_owner(me))),
+        LetGoHeaders => need(x.owner == me, next(r, on_owner(0))),
+        Own(b) => need(own_of(x, b) == 0, next(r, on_own(block(b, r), me))),
+        LetGo(b) => need(own_of(x, b) == me, next(r, on_own(block(b, r), 0))),
+        GoIfMapped(l) => branch(x.map, onward(r), set_p(named(x.map), goto(l, r))),
+        GoIfUnmapped(l) => branch(x.map, goto(l, r), set_p(named(x.map), onward(r))),
+        EmptyIfUnmapped(l) => branch(x.map, set_c(0, goto(l, r)), set_p(named(x.map), onward(r))),
+        GoIfFree(l) => branch(r.h, goto(l, r), set_n(named(r.h), onward(r))),
+        PickFree => need(x.owner == me, pick(records, v.blocks, r)),
+        Choose => need(x.owner == me, choose(records, v.blocks, v.distance, r)),
+        ReadHeader => need(x.owner == me, next(set_h(x.header_p, r), nothing())),
+        WriteHeaderN => need(heads(x, me, P), next(r, on_header(r.p, r.n + 1))),
+        WriteHeaderH => need(heads(x, me, Q), next(r, on_header(r.q, r.h))),
+        FreeHeader => need(heads(x, me, P), next(r, on_freed(r.p, worn(x.wear_p)))),
+        EmptyContent => need(touches(x, me, P), next(r, on_content(r.p, 0))),
+        ReadContent => need(touches(x, me, P), next(set_c(x.content_p, r), nothing())),
+        WriteContent(b) => need(touches(x, me, b), next(r, on_content(block(b, r), r.c))),
+        MapTo(b) => next(r, on_map(r.n, block(b, r) + 1)),
+        Unmap => next(r, on_map(r.n, 0)),
     }
 }
 
@@ -275,7 +258,7 @@ fn words_near<'a>(
     owner: u32,
     map: &'a [u32; Store::MAX_N],
     locks: &'a [u32; Store::MAX_N],
-    records: &'a [u32; Store::BLOCK_CELLS],
+    records: &'a Records,
 ) -> Near
     requires { ⌜ (r .n < mostNumbers) × (r .p < mostBlocks) × (r .q < mostBlocks) ⌝ }
     ensures { λ x. ⌜ x ≡ nearOf r lock owner (table (now (map .entry))) (table (now (locks .entry))) (now (records .entry)) ⌝ }
@@ -327,8 +310,13 @@ pub fn judge(area: &[u8], z: Sizes, t: u32, r: Thread) -> Verdict
     store::read_numbers(area, locks, numbers, &mut s.locks);
     store::read_blocks(area, blocks, cells, &mut s.blocks);
     let act = acts::act_at(r.op, r.line);
-    let words = words_near(r, s.lock, s.owner, &s.map, &s.locks, &s.blocks);
-    perform(act, t, r, words, &s.blocks, s.p, s.d)
+    let near = words_near(r, s.lock, s.owner, &s.map, &s.locks, &s.blocks);
+    let sight = Sight {
+        near,
+        blocks: s.p,
+        distance: s.d,
+    };
+    perform(act, t, r, sight, &s.blocks)
 }
 
 // ---- doing it

@@ -56,114 +56,38 @@ block Q r = r .q
 
 -- ---- the effects that there are
 
+-- what becomes of each word and table, in the area's order
+abbrev pub effect : Word → Word → Entry → Entry → Entry → Entry → Entry → Entry → Effect
+effect lock owner map locks header content wear own =
+    record { lock = lock; owner = owner; map = map; locks = locks; header = header; content = content; wear = wear; own = own }
+
 abbrev pub nothing : Effect
-nothing =
-    record { lock = Stay; owner = Stay; map = Keep; locks = Keep; header = Keep; content = Keep; wear = Keep; own = Keep }
+nothing = effect Stay Stay Keep Keep Keep Keep Keep Keep
 
 abbrev pub onLock : ℕ → Effect
-onLock w =
-    record {
-      lock = Become w;
-      owner = Stay;
-      map = Keep;
-      locks = Keep;
-      header = Keep;
-      content = Keep;
-      wear = Keep;
-      own = Keep;
-    }
+onLock w = effect (Become w) Stay Keep Keep Keep Keep Keep Keep
 
 abbrev pub onOwner : ℕ → Effect
-onOwner w =
-    record {
-      lock = Stay;
-      owner = Become w;
-      map = Keep;
-      locks = Keep;
-      header = Keep;
-      content = Keep;
-      wear = Keep;
-      own = Keep;
-    }
+onOwner w = effect Stay (Become w) Keep Keep Keep Keep Keep Keep
 
 abbrev pub onMap : ℕ → ℕ → Effect
-onMap n w =
-    record {
-      lock = Stay;
-      owner = Stay;
-      map = Put n w;
-      locks = Keep;
-      header = Keep;
-      content = Keep;
-      wear = Keep;
-      own = Keep;
-    }
+onMap n w = effect Stay Stay (Put n w) Keep Keep Keep Keep Keep
 
 abbrev pub onLocks : ℕ → ℕ → Effect
-onLocks n w =
-    record {
-      lock = Stay;
-      owner = Stay;
-      map = Keep;
-      locks = Put n w;
-      header = Keep;
-      content = Keep;
-      wear = Keep;
-      own = Keep;
-    }
+onLocks n w = effect Stay Stay Keep (Put n w) Keep Keep Keep Keep
 
 abbrev pub onHeader : ℕ → ℕ → Effect
-onHeader m w =
-    record {
-      lock = Stay;
-      owner = Stay;
-      map = Keep;
-      locks = Keep;
-      header = Put m w;
-      content = Keep;
-      wear = Keep;
-      own = Keep;
-    }
+onHeader m w = effect Stay Stay Keep Keep (Put m w) Keep Keep Keep
 
 abbrev pub onContent : ℕ → ℕ → Effect
-onContent m w =
-    record {
-      lock = Stay;
-      owner = Stay;
-      map = Keep;
-      locks = Keep;
-      header = Keep;
-      content = Put m w;
-      wear = Keep;
-      own = Keep;
-    }
+onContent m w = effect Stay Stay Keep Keep Keep (Put m w) Keep Keep
 
 -- a block freed, with its wear
 abbrev pub onFreed : ℕ → ℕ → Effect
-onFreed m w =
-    record {
-      lock = Stay;
-      owner = Stay;
-      map = Keep;
-      locks = Keep;
-      header = Put m none;
-      content = Keep;
-      wear = Put m w;
-      own = Keep;
-    }
+onFreed m w = effect Stay Stay Keep Keep (Put m none) Keep (Put m w) Keep
 
 abbrev pub onOwn : ℕ → ℕ → Effect
-onOwn m w =
-    record {
-      lock = Stay;
-      owner = Stay;
-      map = Keep;
-      locks = Keep;
-      header = Keep;
-      content = Keep;
-      wear = Keep;
-      own = Put m w;
-    }
+onOwn m w = effect Stay Stay Keep Keep Keep Keep Keep (Put m w)
 
 -- ---- verdicts
 
@@ -178,6 +102,10 @@ take w v = cond (free w) v Blocked
 -- on to the next line with a record and an effect
 abbrev pub next : Thread → Effect → Verdict
 next r e = Go (onward r) e
+
+-- to one record where the word is free, to another where it isn't
+abbrev pub branch : ℕ → Thread → Thread → Verdict
+branch w r r′ = cond (free w) (Go r nothing) (Go r′ nothing)
 
 -- "Wear at 4,294,967,295 stays there."
 abbrev pub worn : ℕ → ℕ
@@ -218,13 +146,10 @@ perform OwnHeaders s t r = need (free (s .owner)) (next r (onOwner (by t)))
 perform LetGoHeaders s t r = need (heldBy t (s .owner)) (next r (onOwner none))
 perform (Own b) s t r = need (free (s .own (block b r))) (next r (onOwn (block b r) (by t)))
 perform (LetGo b) s t r = need (heldBy t (s .own (block b r))) (next r (onOwn (block b r) none))
-perform (GoIfMapped l) s t r =
-    cond (free (s .map (r .n))) (next r nothing) (Go (goto l (setP (named (s .map (r .n))) r)) nothing)
-perform (GoIfUnmapped l) s t r =
-    cond (free (s .map (r .n))) (Go (goto l r) nothing) (next (setP (named (s .map (r .n))) r) nothing)
-perform (EmptyIfUnmapped l) s t r =
-    cond (free (s .map (r .n))) (Go (goto l (setC 0 r)) nothing) (next (setP (named (s .map (r .n))) r) nothing)
-perform (GoIfFree l) s t r = cond (free (r .h)) (Go (goto l r) nothing) (next (setN (named (r .h)) r) nothing)
+perform (GoIfMapped l) s t r = branch (s .map (r .n)) (onward r) (setP (named (s .map (r .n))) (goto l r))
+perform (GoIfUnmapped l) s t r = branch (s .map (r .n)) (goto l r) (setP (named (s .map (r .n))) (onward r))
+perform (EmptyIfUnmapped l) s t r = branch (s .map (r .n)) (setC 0 (goto l r)) (setP (named (s .map (r .n))) (onward r))
+perform (GoIfFree l) s t r = branch (r .h) (goto l r) (setN (named (r .h)) (onward r))
 perform PickFree s t r =
     need (heldBy t (s .owner)) (need (ltb (lowestFree (s .header) (s .blocks)) (s .blocks))
     (next (setP (lowestFree (s .header) (s .blocks)) r) nothing))
@@ -255,9 +180,9 @@ abbrev pub put : Entry → (ℕ → ℕ) → ℕ → ℕ
 put Keep f = f
 put (Put i w) f = upd f i w
 
--- the store with t's record and an effect
-abbrev pub apply : Store → ℕ → Thread → Effect → Store
-apply s t r e =
+-- the store with these records of its threads, and an effect
+abbrev pub changed : Store → (ℕ → Thread) → Effect → Store
+changed s records e =
     record {
       threads = s .threads;
       numbers = s .numbers;
@@ -265,7 +190,7 @@ apply s t r e =
       distance = s .distance;
       lock = become (e .lock) (s .lock);
       owner = become (e .owner) (s .owner);
-      thread = upd (s .thread) t r;
+      thread = records;
       map = put (e .map) (s .map);
       locks = put (e .locks) (s .locks);
       header = put (e .header) (s .header);
@@ -273,3 +198,7 @@ apply s t r e =
       wear = put (e .wear) (s .wear);
       own = put (e .own) (s .own);
     }
+
+-- the store with t's record and an effect
+abbrev pub apply : Store → ℕ → Thread → Effect → Store
+apply s t r e = changed s (upd (s .thread) t r) e

@@ -12,7 +12,7 @@ use Rattle.meaning.specs.declared.Entry.the-variants.{Keep, Put}
 use Rattle.meaning.specs.Limits.{mostThreads, mostNumbers, mostBlocks, mostWord}
 use Rattle.meaning.specs.Store.{Store}
 use Rattle.meaning.specs.declared.Effect.{Effect}
-use Rattle.meaning.specs.Step.{become, put}
+use Rattle.meaning.specs.Step.{changed}
 use Rattle.store.specs.declared.Store.{Store as Working}
 use Rattle.store.specs.Layout.{tAt, nAt, pAt, threadWords, blockWords, size}
 use Rattle.store.specs.Area.{word, threadFrom}
@@ -125,19 +125,4 @@ zeroFilled =
 
 -- the store with an effect alone; with the thread's record besides it is what a step leaves (`apply`)
 abbrev pub made : Store → Effect → Store
-made s e =
-    record {
-      threads = s .threads;
-      numbers = s .numbers;
-      blocks = s .blocks;
-      distance = s .distance;
-      lock = become (e .lock) (s .lock);
-      owner = become (e .owner) (s .owner);
-      thread = s .thread;
-      map = put (e .map) (s .map);
-      locks = put (e .locks) (s .locks);
-      header = put (e .header) (s .header);
-      content = put (e .content) (s .content);
-      wear = put (e .wear) (s .wear);
-      own = put (e .own) (s .own);
-    }
+made s e = changed s (s .thread) e

@@ -103,3 +103,14 @@ pub entry-within :
     {b : List ℕ} {t n p : ℕ} (live : Live b t n p) (from stride count place : ℕ) (e : Entry) → place ≡ from → EntryBelow count e →
     ((k : ℕ) → k < count → Within b (from + stride * k) × (pAt < from + stride * k)) → EntryWithin b place stride e
 entry-within live from stride count place e q h inside = rw q (within-entry live from stride count e h inside)
+
+-- an effect after what came before
+pub reached-made :
+    {a b c : List ℕ} {t n p : ℕ} {s : Store} (e : Effect) → Reached a b t n p s → Reached b c t n p (made (decode b) e) →
+    Reached a c t n p (made s e)
+reached-made e r q =
+    record {
+      decoded = q .decoded ∙ ap (λ s. made s e) (r .decoded);
+      live = q .live;
+      bytes = λ h. q .bytes (r .bytes h);
+    }

@@ -1,13 +1,34 @@
--- The block that a register picks. Assumes nothing.
-use mathlib.Core.Path.{_≡_}
+-- The words near a record, and the block that a register picks. Assumes nothing.
+use mathlib.Core.Path.{_≡_, _∙_, ap}
 use Prim.Native.Nat.{ℕ, _<_}
 use Rattle.meaning.specs.declared.Reg.{Reg}
 use Rattle.meaning.specs.declared.Reg.the-variants.{P, Q}
 use Rattle.meaning.specs.declared.Thread.{Thread}
 use Rattle.meaning.specs.Store.{Store}
-use Rattle.meaning.specs.Step.{block}
+use Rattle.meaning.specs.declared.Act.{Act}
+use Rattle.meaning.specs.declared.Verdict.{Verdict}
+use Rattle.meaning.specs.Step.{block, perform}
+use Rattle.store.specs.declared.Store.{Store as Working}
+use Rattle.store.specs.Live.{table, view}
 use Rattle.machine.specs.declared.Near.{Near}
-use Rattle.machine.specs.Judging.{Sees, ownOf, headerOf}
+use Rattle.machine.specs.Judging.{Sees, nearOf, ownOf, headerOf}
+
+-- the words near a record are those of the working store
+pub near-sees :
+    (w : Working) (r : Thread) {x : Near} → x ≡ nearOf r (w .lock) (w .owner) (table (w .map)) (table (w .locks)) (w .blocks) → Sees (view w) r x
+near-sees w r e =
+    record {
+      lock = ap (λ x. x .lock) e;
+      owner = ap (λ x. x .owner) e;
+      map = ap (λ x. x .map) e;
+      locks = ap (λ x. x .locks) e;
+      header-p = ap (λ x. x .«header_p») e;
+      header-q = ap (λ x. x .«header_q») e;
+      content-p = ap (λ x. x .«content_p») e;
+      wear-p = ap (λ x. x .«wear_p») e;
+      own-p = ap (λ x. x .«own_p») e;
+      own-q = ap (λ x. x .«own_q») e;
+    }
 
 pub ownOf-at : {s : Store} {r : Thread} {x : Near} → Sees s r x → (b : Reg) → ownOf x b ≡ s .own (block b r)
 ownOf-at e P = e .own-p
@@ -20,3 +41,8 @@ headerOf-at e Q = e .header-q
 pub block-below : (b : Reg) (r : Thread) (n : ℕ) → r .p < n → r .q < n → block b r < n
 block-below P r n p q = p
 block-below Q r n p q = q
+
+-- what an act would do, of the same act and the same store
+pub perform-same :
+    {act act′ : Act} {s s′ : Store} (t : ℕ) (r : Thread) {v : Verdict} → v ≡ perform act s t r → act ≡ act′ → s ≡ s′ → v ≡ perform act′ s′ t r
+perform-same t r e p q = e ∙ (λ i. perform (p i) (q i) t r)

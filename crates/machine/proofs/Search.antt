@@ -1,5 +1,5 @@
 -- The searches among the first k blocks, one block more at a time: what their loops go by. Assumes nothing.
-use mathlib.Core.Path.{_≡_, refl, _∙_, sym, ap}
+use mathlib.Core.Path.{_≡_, refl, _∙_, sym, ap, ap₂}
 use mathlib.Core.Bool.{Bool, true, false, not, cond}
 use Prim.Native.Nat.{ℕ, zero, suc, _+_, _-_, _<_, _≤_}
 use native.Mathlib.Numerals.{add-one}
@@ -9,15 +9,17 @@ use lib.Dec.{eqb, ltb}
 use borrow.Author.Tests.{ne-eqb, lt-ltb, le-ltb, ltb-true, ltb-false, not-true, not-false}
 use Rattle.meaning.specs.declared.Found.{Found}
 use Rattle.meaning.specs.declared.Found.the-variants.{Nobody, At}
-use Rattle.meaning.specs.Choosing.{lowestFree, challenge, best}
+use Rattle.meaning.specs.Choosing.{lowestFree, challenge, best, toBlock, leastWorn, fromBlock}
 use Rattle.meaning.specs.declared.Thread.{Thread}
 use Rattle.meaning.specs.declared.Reg.{Reg}
 use Rattle.meaning.specs.declared.Reg.the-variants.{P, Q}
 use Rattle.meaning.specs.Limits.{mostBlocks, mostWord}
 use Rattle.meaning.specs.Holding.{free}
 use Rattle.meaning.specs.Store.{Store}
-use Rattle.meaning.specs.Step.{choosing}
-use Rattle.machine.specs.Judging.{placeOf, weightOf, soughtBy, chosenBy}
+use Rattle.meaning.specs.declared.Effect.{Effect}
+use Rattle.meaning.specs.declared.Verdict.{Verdict}
+use Rattle.meaning.specs.Step.{choosing, next, setP, setQ, nothing}
+use Rattle.machine.specs.Judging.{placeOf, weightOf, soughtBy, chosenBy, chosenOf, Searches}
 
 -- ---- the lowest free block
 
@@ -163,7 +165,23 @@ held-done {weight} (somebody m i) = rw (ne-eqb (weight m) 0 (omega arith))
 
 -- ---- from and to
 
--- L3's verdict looks at wear and distance alone
-pub chosen-choosing : (s : Store) (r : Thread) (to from : Found) → chosenBy (s .wear) (s .distance) r to from ≡ choosing s r to from
+-- L3's verdict, of what the searches found
+pub chosen-found :
+    (header wear : ℕ → ℕ) (blocks distance q : ℕ) (r : Thread) {to from : Found} {p : ℕ} {on : Thread} {e : Effect} {v : Verdict} →
+    to ≡ toBlock header wear blocks → to ≡ At q → from ≡ leastWorn header wear blocks → p ≡ fromBlock wear distance q from →
+    on ≡ setQ q (setP p r) → e ≡ nothing → v ≡ next on e → v ≡ chosenOf header wear blocks distance r
+chosen-found header wear blocks distance q r t i f d o n v =
+    rw (sym t ∙ i) (v ∙ ap₂ next (o ∙ ap (λ x. setQ q (setP x r)) (d ∙ ap (fromBlock wear distance q) f)) n)
+
+-- it looks at wear and distance alone
+chosen-choosing : (s : Store) (r : Thread) (to from : Found) → chosenBy (s .wear) (s .distance) r to from ≡ choosing s r to from
 chosen-choosing s r Nobody from = refl
 chosen-choosing s r (At to) from = refl
+
+pub chosen-seen :
+    {s : Store} {header wear : ℕ → ℕ} {blocks distance : ℕ} (r : Thread) {v : Verdict} → Searches s header wear blocks distance →
+    v ≡ chosenOf header wear blocks distance r →
+    v ≡ choosing s r (toBlock (s .header) (s .wear) (s .blocks)) (leastWorn (s .header) (s .wear) (s .blocks))
+chosen-seen {s} r g e =
+    e ∙ (λ i. chosenOf (g .header i) (g .wear i) (g .blocks i) (g .distance i) r)
+    ∙ chosen-choosing s r (toBlock (s .header) (s .wear) (s .blocks)) (leastWorn (s .header) (s .wear) (s .blocks))

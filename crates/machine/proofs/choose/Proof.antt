@@ -1,11 +1,10 @@
 -- `machine::choose` meets its contract. Assumes nothing.
-use mathlib.Core.Path.{_∙_, sym, ap, ap₂}
+use mathlib.Core.Path.{_∙_, sym, ap}
 use native.Mathlib.Omega.{arith}
-use Rattle.meaning.specs.Choosing.{fromBlock}
-use Rattle.meaning.specs.Step.{next, setP, setQ}
+use Rattle.meaning.specs.Step.{setQ}
 use Rattle.meaning.specs.declared.Reg.the-variants.{P, Q}
 use Rattle.store.specs.Live.{headers, wears}
-use Rattle.machine.proofs.Search.{sought-below}
+use Rattle.machine.proofs.Search.{sought-below, chosen-found}
 use borrow.Author.Needs.{needs}
 use Rattle.machine.proofs.choose.Statement.{statement}
 use Rattle.machine.proofs.choose.Tie as tie
@@ -28,14 +27,9 @@ returns c = rw (sym (c .before .before .before .heaviest .ensures) ∙ c .enum-t
 returns-2 : tie.Need-returns-2
 returns-2 c =
     let a = c .before .before .before .before .before .before .before .before .before .before .args in
-    let q = c .before .before .before .before .before .before .to .given .0 .0 in
-    let chosen =
-    c .before .before .set-q .ensures
-    ∙ ap (setQ q)
-    (c .before .before .before .set-p .ensures
-    ∙ ap (λ x. setP x (a .r)) (c .before .before .before .before .from-block .ensures ∙ ap (fromBlock (wears (a .records .now)) (a .distance) q) (c .before .before .before .before .before .before .before .before .heaviest2 .ensures)))
-    in
-    rw (sym (c .before .before .before .before .before .before .before .before .before .heaviest .ensures) ∙ c .before .before .before .before .before .before .to .given .1) (c .next .ensures ∙ ap₂ next chosen (c .before .nothing .ensures))
+    chosen-found (headers (a .records .now)) (wears (a .records .now)) (a .blocks) (a .distance) (c .before .before .before .before .before .before .to .given .0 .0) (a .r) (c .before .before .before .before .before .before .before .before .before .heaviest .ensures)
+    (c .before .before .before .before .before .before .to .given .1) (c .before .before .before .before .before .before .before .before .heaviest2 .ensures) (c .before .before .before .before .from-block .ensures) (c .before .before .set-q .ensures ∙ ap (setQ (c .before .before .before .before .before .before .to .given .0 .0)) (c .before .before .before .set-p .ensures)) (c .before .nothing .ensures)
+    (c .next .ensures)
 
 pub choose-spec : {M : Type 1} → statement M
 choose-spec =

@@ -1,15 +1,15 @@
 -- `machine::judge` meets its contract: the working store, filled with zeros and then from the area, is the decoded one, and `perform`
 -- looks at it. Assumes nothing.
-use mathlib.Core.Path.{refl, _∙_, ap, ap₂}
+use mathlib.Core.Path.{refl, ap}
 use Prim.Native.Nat.{_*_}
 use native.Mathlib.Omega.{arith}
 use borrow.Author.Needs.{needs}
 use Rattle.meaning.specs.Limits.{mostThreads, mostNumbers, mostBlocks}
-use Rattle.meaning.specs.Step.{perform}
 use Rattle.store.specs.Layout.{threadWords, blockWords}
 use Rattle.store.specs.Live.{Live, view}
 use Rattle.store.specs.declared.Store.{Store as Working}
 use Rattle.store.proofs.Filling.{fills, Loaded, view-loaded}
+use Rattle.machine.proofs.Registers.{near-sees, perform-same}
 use Rattle.machine.proofs.judge.Statement.{statement}
 use Rattle.machine.proofs.judge.Tie as tie
 
@@ -37,7 +37,6 @@ perform-requires c κs = (c .before .before .before .before .before .before .bef
 returns : tie.Need-returns
 returns c =
     let a = c .before .before .before .before .before .before .before .before .before .before .before .before .before .before .before .before .before .before .before .before .before .before .before .before .before .before .before .before .before .before .args in
-    let near = c .before .before .before .words-near .ensures in
     let w : Working =
     record {
       t = c .before .before .before .before .before .before .before .before .before .before .before .before .before .before .before .before .before .before .before .before .before .before .word-at .result;
@@ -64,21 +63,9 @@ returns c =
       locks = rw (c .before .before .before .before .before .before .before .before .before .before .before .before .before .before .before .before .before .before .before .before .before .before .before .before .before .before .before .locks-at .ensures) at (c .before .before .before .before .before .before .before .before .before .before .before .read-numbers2 .ensures);
       blocks = rw (c .before .before .before .before .before .before .before .before .before .before .before .before .before .before .before .before .before .before .before .before .before .before .before .before .before .before .blocks-at .ensures) at (c .before .before .before .before .before .before .before .before .before .read-blocks .ensures);
     } in
-    c .perform .ensures (view w)
-    (record {
-      lock = ap (λ x. x .lock) near;
-      owner = ap (λ x. x .owner) near;
-      map = ap (λ x. x .map) near;
-      locks = ap (λ x. x .locks) near;
-      header-p = ap (λ x. x .«header_p») near;
-      header-q = ap (λ x. x .«header_q») near;
-      content-p = ap (λ x. x .«content_p») near;
-      wear-p = ap (λ x. x .«wear_p») near;
-      own-p = ap (λ x. x .«own_p») near;
-      own-q = ap (λ x. x .«own_q») near;
-    })
-    (record { header = refl; wear = refl; blocks = refl; distance = refl })
-    ∙ ap₂ (λ act s. perform act s (a .t) (a .r)) (c .before .before .before .before .before .before .before .before .act-at .ensures) (view-loaded (c .before .before .before .before .before .before .before .before .before .before .before .before .before .before .before .before .before .before .before .before .before .before .before .before .before .before .before .before .before .before .pre .0) loaded)
+    perform-same (a .t) (a .r)
+    (c .perform .ensures (view w) (near-sees w (a .r) (c .before .before .before .words-near .ensures)) (record { header = refl; wear = refl; blocks = refl; distance = refl }))
+    (c .before .before .before .before .before .before .before .before .act-at .ensures) (view-loaded (c .before .before .before .before .before .before .before .before .before .before .before .before .before .before .before .before .before .before .before .before .before .before .before .before .before .before .before .before .before .before .pre .0) loaded)
 
 pub judge-spec : {M : Type 1} → statement M
 judge-spec =

@@ -4,10 +4,9 @@ use native.Mathlib.Omega.{arith}
 use borrow.Author.Needs.{needs}
 use Rattle.meaning.specs.Limits.{mostBlocks}
 use Rattle.meaning.specs.Holding.{heldBy}
-use Rattle.meaning.specs.Choosing.{toBlock, leastWorn}
 use Rattle.meaning.specs.Step.{need}
-use Rattle.machine.specs.Judging.{pickedOf, chosenOf}
-use Rattle.machine.proofs.Search.{chosen-choosing}
+use Rattle.machine.specs.Judging.{pickedOf}
+use Rattle.machine.proofs.Search.{chosen-seen}
 use Rattle.machine.proofs.Registers.{ownOf-at, headerOf-at, block-below}
 use Rattle.machine.proofs.perform.Statement.{statement}
 use Rattle.machine.proofs.perform.Tie as tie
@@ -80,11 +79,7 @@ returns-17 c =
     let a = c .before .before .before .before .before .before .args in
     λ s e g.
     rw (c .before .before .before .enum-told9 .given .1)
-    (c .need10 .ensures
-    ∙ ap₂ (λ w v. need (heldBy (a .t) w) v) (e .owner)
-    (c .before .choose .ensures
-    ∙ (λ i. chosenOf (g .header i) (g .wear i) (g .blocks i) (g .distance i) (a .r))
-    ∙ chosen-choosing s (a .r) (toBlock (s .header) (s .wear) (s .blocks)) (leastWorn (s .header) (s .wear) (s .blocks))))
+    (c .need10 .ensures ∙ ap₂ (λ w v. need (heldBy (a .t) w) v) (e .owner) (chosen-seen (a .r) g (c .before .choose .ensures)))
 
 returns-18 : tie.Need-returns-18
 returns-18 c = λ s e g. rw (c .before .before .before .before .before .enum-told10 .given .1) (simp (c .need11 .ensures, c .before .next9 .ensures, c .before .before .nothing .ensures, c .before .before .before .set-h .ensures, e .owner, e .header-p))

@@ -1,11 +1,9 @@
 -- `machine::settle` meets its contract: the record, what touches no block, the blocks. Assumes nothing.
-use mathlib.Core.Path.{_∙_, ap}
 use borrow.Author.Needs.{needs}
 use Rattle.meaning.specs.Step.{apply, nothing}
 use Rattle.store.specs.Area.{decode}
-use Rattle.store.specs.Live.{made}
 use Rattle.machine.specs.Settling.{Reached, unblocked, onBlocks}
-use Rattle.machine.proofs.Reaching.{reached-start, reached-thread}
+use Rattle.machine.proofs.Reaching.{reached-start, reached-thread, reached-made}
 use Rattle.machine.proofs.settle.Statement.{statement}
 use Rattle.machine.proofs.settle.Tie as tie
 
@@ -36,14 +34,8 @@ returns c =
     let r₁ = seated (c .before .before .before .before .before .before .before .before .before .before) in
     let r₂ = c .before .before .before .before .before .before .settle-numbers .ensures in
     let r₃ = c .before .before .settle-blocks .ensures in
-    record {
-      decoded =
-          r₃ .decoded
-          ∙ ap (λ s. made s (onBlocks (e .header) (e .content) (e .wear) (e .own)))
-          (r₂ .decoded ∙ ap (λ s. made s (unblocked (e .lock) (e .owner) (e .map) (e .locks))) (r₁ .decoded));
-      live = r₃ .live;
-      bytes = λ h. r₃ .bytes (r₂ .bytes (r₁ .bytes h));
-    }
+    reached-made (onBlocks (e .header) (e .content) (e .wear) (e .own))
+    (reached-made (unblocked (e .lock) (e .owner) (e .map) (e .locks)) r₁ r₂) r₃
 
 pub settle-spec : {M : Type 1} → statement M
 settle-spec =

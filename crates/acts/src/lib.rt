@@ -26,66 +26,66 @@ const MOST_WORD: u32 = 4294967295;
 // ---- document 01, "The lines"
 
 const WRITING: [Act; 16] = [
-    Act::TakeH,
-    Act::TakeN,
-    Act::GoIfMapped(12),
-    Act::OwnHeaders,
-    Act::PickFree,
-    Act::Own(Reg::P),
-    Act::WriteHeaderN,
-    Act::EmptyContent,
-    Act::LetGo(Reg::P),
-    Act::MapTo(Reg::P),
-    Act::LetGoHeaders,
-    Act::ReleaseH,
-    Act::Own(Reg::P),
-    Act::WriteContent(Reg::P),
-    Act::LetGo(Reg::P),
-    Act::FinishN(Answer::Zero),
+    Act::TakeH, // W1
+    Act::TakeN, // W2
+    Act::GoIfMapped(12), // W3
+    Act::OwnHeaders, // W4
+    Act::PickFree, // W5
+    Act::Own(Reg::P), // W6
+    Act::WriteHeaderN, // W7
+    Act::EmptyContent, // W8
+    Act::LetGo(Reg::P), // W9
+    Act::MapTo(Reg::P), // W10
+    Act::LetGoHeaders, // W11
+    Act::ReleaseH, // W12
+    Act::Own(Reg::P), // W13
+    Act::WriteContent(Reg::P), // W14
+    Act::LetGo(Reg::P), // W15
+    Act::FinishN(Answer::Zero), // W16
 ];
 
 const READING: [Act; 6] = [
-    Act::TakeN,
-    Act::EmptyIfUnmapped(6),
-    Act::Own(Reg::P),
-    Act::ReadContent,
-    Act::LetGo(Reg::P),
-    Act::FinishN(Answer::C),
+    Act::TakeN, // R1
+    Act::EmptyIfUnmapped(6), // R2
+    Act::Own(Reg::P), // R3
+    Act::ReadContent, // R4
+    Act::LetGo(Reg::P), // R5
+    Act::FinishN(Answer::C), // R6
 ];
 
 const UNMAPPING: [Act; 11] = [
-    Act::TakeH,
-    Act::TakeN,
-    Act::GoIfUnmapped(10),
-    Act::OwnHeaders,
-    Act::Own(Reg::P),
-    Act::Unmap,
-    Act::FreeHeader,
-    Act::LetGo(Reg::P),
-    Act::LetGoHeaders,
-    Act::ReleaseN,
-    Act::FinishH(Answer::Zero),
+    Act::TakeH, // U1
+    Act::TakeN, // U2
+    Act::GoIfUnmapped(10), // U3
+    Act::OwnHeaders, // U4
+    Act::Own(Reg::P), // U5
+    Act::Unmap, // U6
+    Act::FreeHeader, // U7
+    Act::LetGo(Reg::P), // U8
+    Act::LetGoHeaders, // U9
+    Act::ReleaseN, // U10
+    Act::FinishH(Answer::Zero), // U11
 ];
 
 const LEVELLING: [Act; 18] = [
-    Act::TakeH,
-    Act::OwnHeaders,
-    Act::Choose,
-    Act::ReadHeader,
-    Act::GoIfFree(17),
-    Act::TakeN,
-    Act::Own(Reg::P),
-    Act::ReadContent,
-    Act::Own(Reg::Q),
-    Act::WriteHeaderH,
-    Act::WriteContent(Reg::Q),
-    Act::MapTo(Reg::Q),
-    Act::FreeHeader,
-    Act::LetGo(Reg::Q),
-    Act::LetGo(Reg::P),
-    Act::ReleaseN,
-    Act::LetGoHeaders,
-    Act::FinishH(Answer::Moved),
+    Act::TakeH, // L1
+    Act::OwnHeaders, // L2
+    Act::Choose, // L3
+    Act::ReadHeader, // L4
+    Act::GoIfFree(17), // L5
+    Act::TakeN, // L6
+    Act::Own(Reg::P), // L7
+    Act::ReadContent, // L8
+    Act::Own(Reg::Q), // L9
+    Act::WriteHeaderH, // L10
+    Act::WriteContent(Reg::Q), // L11
+    Act::MapTo(Reg::Q), // L12
+    Act::FreeHeader, // L13
+    Act::LetGo(Reg::Q), // L14
+    Act::LetGo(Reg::P), // L15
+    Act::ReleaseN, // L16
+    Act::LetGoHeaders, // L17
+    Act::FinishH(Answer::Moved), // L18
 ];
 
 // The act at a line of an operation.
@@ -289,7 +289,7 @@ pub fn worn(w: u32) -> u32
     if w < MOST_WORD { w + 1 } else { w }
 }
 
-pub fn moved(h: u32) -> u32
+fn moved(h: u32) -> u32
     ensures { λ x. ⌜ x ≡ movedOf h ⌝ }
 {
     if h == 0 { 0 } else { 1 }

@@ -76,7 +76,7 @@
  * The library is for x86-64 with the calling convention of Linux; it may be
  * part of a position-independent program. It takes the names format, begin and
  * step and no other, asks for memcpy and memset and for nothing else, has no
- * data of its own, and each call ends by itself. step() takes up to 24 KB of
+ * data of its own, and each call ends by itself. step() takes up to 12 KB of
  * stack, format() and begin() less than 1 KB.
  */
 #ifndef KERNELSUN_H

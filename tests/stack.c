@@ -15,7 +15,7 @@
 enum { ROOM = 1 << 20, PAINT = 0xa5 };
 
 /* include/kernelsun.h, "LINKING". */
-enum { STEP_MOST = 24 * 1024, OTHERS_MOST = 1024 };
+enum { STEP_MOST = 12 * 1024, OTHERS_MOST = 1024 };
 
 static uint8_t area[KERNELSUN_LENGTH_MOST];
 

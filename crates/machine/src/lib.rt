@@ -50,7 +50,7 @@ use meaning::Word;
 use store::Store;
 
 // The words that a line may look at, the searches' tables left out: those of H, the headers' owner, number n, and blocks p and q.
-pub struct Near {
+struct Near {
     pub lock: u32,
     pub owner: u32,
     pub map: u32,

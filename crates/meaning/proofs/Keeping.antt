@@ -220,6 +220,8 @@ pub record Moves (s : Store) (t : ℕ) (r r′ : Thread) (e : Effect) : Type 0 w
       cond (takesN r) (leaves (r .op) (r .c) (keeps s (r .n))) (promised r (keeps s (r .n)))
   pub same-n : If (holdsN r′) (r′ .n ≡ r .n)
   pub taken : If (takesN r) (holdsN r′ ≡ true)
+  -- who changes a wear holds H afterwards too
+  pub still-H : Puts (e .wear) (λ m w. holdsH r′ ≡ true)
 
 module _ (s : Store) (I : Inv s) (t : ℕ) (r′ : Thread) (e : Effect) (M : Moves s t (s .thread t) r′ e) where
   mapped-kept : (m k : ℕ) → put (e .header) (s .header) m ≡ naming k →

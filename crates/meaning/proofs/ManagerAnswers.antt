@@ -1,6 +1,6 @@
--- Demand 2, over stores: the manager, obeying the operations in the order of their last locks, answers what the machine answers, and holds
--- what the store says. One call at a time (`serves`): the manager's content of each number is what the store says it will hold, and
--- what is owed is answered later, by the step that finishes.
+-- Demand 2, over stores: the manager, obeying the operations in the order of their last locks, answers what the machine answers, and has
+-- mapped and holds what the store says. One call at a time (`serves`): what the manager has of each number is what the store says will
+-- become of it, and what is owed is answered later, by the step that finishes.
 -- Assumes nothing.
 use mathlib.Core.Path.{_≡_, refl, sym, ap, _∙_, subst}
 use mathlib.Core.Bool.{Bool, true, false, not, cond, _&&_, or-false}
@@ -22,7 +22,7 @@ use Rattle.meaning.specs.Call.{Entry, begin, step, callStore, isIdle, be
 use Rattle.meaning.specs.Manager.{Manager, initial, ebmRead}
 use Rattle.meaning.specs.Schedule.{Operation, operation, Answered, emit, takesLast, pastLast, placed, run, placing, finishing, order, finishedBy, obeyAll, managed, ofManager}
 use Rattle.meaning.specs.Demands.{kept, leavesAlone, Owed, none-owed, one-owed, ManagerAnswers}
-use Rattle.meaning.proofs.Words.{same, either-way, clash, or-way, two-ways, free-held, held-by, upd-same}
+use Rattle.meaning.proofs.Words.{same, either-way, clash, or-way, two-ways, held-by, upd-same}
 use Rattle.meaning.proofs.Invariant.{takesN, Stands, Inv}
 use Rattle.meaning.proofs.Keeping.{Moves, up}
 use Rattle.meaning.proofs.Sharing.{fact}

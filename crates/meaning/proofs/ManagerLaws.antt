@@ -1,4 +1,4 @@
--- Laws of the manager itself, over lists of operations: what it reads after an operation and after a list, and what it answers.
+-- Laws of the manager itself, over lists of operations: what it has of a number after an operation and after a list, and what it answers.
 -- Nothing here speaks of a store. Assumes nothing.
 use mathlib.Core.Path.{_≡_, refl, ap, _∙_}
 use mathlib.Core.Bool.{Bool, true, false, not, cond, _&&_}
@@ -21,6 +21,7 @@ obey-asked o m k =
     (λ x. either-way (eqb (o .op) LEVEL) (λ y. rw (x, y)) (λ y. either-way (eqb (o .op) WRITE) (λ z. rw (y, z, x))
     (λ z. either-way (eqb (o .op) READ) (λ w. rw (x, y, z, w)) (λ w. rw (y, z, w, x)))))
 
+-- so what it reads
 pub obey-reads : (o : Operation) (m : Manager) (k : ℕ) →
     ebmRead k (obey o m) ≡ cond (eqb (o .number) k) (leaves (o .op) (o .word) (asked k m)) (asked k m) .content
 obey-reads o m k = ap (λ x. x .content) (obey-asked o m k)

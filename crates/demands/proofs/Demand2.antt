@@ -9,8 +9,8 @@
 --    unmap came after that write or if there is none.
 --  * area-manager-holds: what a number's block holds is what the manager holds of it, wherever no writer and no unmapper has its lock;
 --    so where all threads are idle, of every number (area-manager-holds-rest).
---  * area-manager-maps, area-manager-maps-rest: there a number is mapped exactly where it is in the manager's mapped set. So a written 0,
---    which a read gives as it gives an unmapped number's empty, is kept as a content.
+--  * area-manager-maps, area-manager-maps-rest: there a number is mapped exactly where it is in the manager's mapped set. A read tells no
+--    difference between a written 0 and an unmapped number; the map does.
 --  * grown-one-block-each: two numbers never share a block.
 -- The definitions are those of the crate meaning, specs/Demands and specs/Manager. Assumes nothing.
 use mathlib.Core.Path.{_≡_, sym, ap, subst}
@@ -106,6 +106,7 @@ module _ (a : List ℕ) (f : Formatted a) (w : List Entry) (x : AllWords w) wher
       kept (decode (run callArea a w)) k ≡ ebmRead k (obeyAll initial (order callArea decode a w))
   area-manager-holds k alone = ap (λ x. x .content) (area-keeps k alone)
 
+  -- "a written 0 is as good a content as any", and unmap "removes the number from the mapped set"
   pub area-manager-maps : (k : ℕ) →
       ((v : ℕ) → heldBy v (decode (run callArea a w) .locks k) ≡ true → leavesAlone (decode (run callArea a w) .thread v) ≡ true) →
       isMapped (decode (run callArea a w)) k ≡ obeyAll initial (order callArea decode a w) .mapped k

@@ -1,5 +1,5 @@
--- 01, "Checked by hand": the starred cases as one list under one theorem, proved by computing the definitions, and three more samples
--- under another. A case is data: a format, begins and steps, and what must come back. Assumes nothing.
+-- 01, "Checked by hand": the starred cases as one list under one theorem, proved by computing the definitions, and the example of "The
+-- script program" under another. A case is data: a format, begins and steps, and what must come back. Assumes nothing.
 use mathlib.Core.Path.{_≡_, refl}
 use mathlib.Core.List.{List, [], _∷_, map}
 use Prim.Native.Nat.{ℕ, zero, suc, _-_}
@@ -100,7 +100,7 @@ levelled =
     ∷ 0 ∷ 0 ∷ 0 ∷ 0  -- block 2 was never used
     ∷ []
 
--- ---- the starred cases
+-- ---- the starred cases, and the two that the last of them lists with it
 
 unfoldable pub starred : List Case
 starred =
@@ -118,19 +118,20 @@ starred =
     ∷ accepted 1 1 2 1 (whole LEVEL 0 0 7 0 [])  -- level on fresh: 7 steps, value 0
     ∷ record { t = 1; n = 2; p = 3; d = 2; number = WENT; lines = usedTwo (whole LEVEL 0 0 18 1 []); end = exactly levelled }  -- levelling gives 1, to its bytes
     ∷ accepted 1 2 3 2 (usedTwo (whole LEVEL 0 0 18 1 (whole READ 1 0 6 9 (whole READ 0 0 3 0 []))))  -- read 1 gives 9, read 0 gives 0
+    -- two that stand beside these and bear no star
+    ∷ accepted 1 2 3 2 (usedTwo (whole LEVEL 0 0 18 1 (whole LEVEL 0 0 7 0 [])))  -- a second level gives 0
+    ∷ accepted 1 2 3 3 (usedTwo (whole LEVEL 0 0 7 0 []))  -- with D=3 the first level gives 0
     ∷ []
 
 pub starred-hold : map happens starred ≡ map expected starred
 unfolding starred wellFormed
 starred-hold = refl
 
--- ---- samples that bear no star
+-- ---- the script's example
 
 unfoldable pub samples : List Case
 samples =
-    accepted 1 2 3 2 (usedTwo (whole LEVEL 0 0 18 1 (whole LEVEL 0 0 7 0 [])))  -- a second level gives 0
-    ∷ accepted 1 2 3 3 (usedTwo (whole LEVEL 0 0 7 0 []))  -- with D=3 the first level gives 0
-    ∷ accepted 2 1 2 1  -- 01, "The script program", the example
+    accepted 2 1 2 1  -- 01, "The script program", the example
     (record { call = begin 0 READ 0 9; number = WENT; value = 0 }
     ∷ record { call = begin 1 READ 0 0; number = WENT; value = 0 }
     ∷ record { call = step 0; number = WENT; value = 0 }

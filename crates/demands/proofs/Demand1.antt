@@ -1,7 +1,7 @@
 -- DEMAND 1, over areas of bytes. Assumes nothing.
 --  * refusals: each refusal number comes back exactly where the table of 01, "Numbers given back", says; for every area and argument.
 --  * refusal-keeps: a number of 2 or more, BLOCKED included, leaves the area as it was; for every area and argument.
---  * unfinished-value: the value is 0 except where an operation finishes; for every area and argument.
+--  * unfinished-value: the value is 0 except where an operation finishes, for format, begin and step; for every area and argument.
 --  * formed-kept: a call never turns a well-formed area into a malformed one, grown from fresh or made by hand.
 --  * sizes-kept, grown-sizes: a call never changes T, N, P or D.
 --  * grown-well-formed, grown-no-shape: an area grown from fresh is well formed, so no call on it answers SHAPE.
@@ -9,24 +9,24 @@
 --  * grown-progress: where some thread of an area grown from fresh has open work, some open thread's step answers WENT or FINISHED.
 -- What FAULT, BLOCKED and open threads look like is computed in Reached.
 use mathlib.Core.Path.{_≡_, refl, sym, subst}
-use mathlib.Core.Bool.{true}
+use mathlib.Core.Bool.{Bool, true, false}
 use mathlib.Core.List.{List}
 use Prim.Native.Nat.{ℕ, _≤_}
 use native.Mathlib.Omega.{arith}
 use lib.Dec.{eqb}
 use lib.ListN.{length}
 use borrow.Author.Tests.{ltb-true, leb-true, not-true}
-use Rattle.meaning.specs.Numbers.{FINISHED, BLOCKED, SHAPE, FAULT}
+use Rattle.meaning.specs.Numbers.{WENT, FINISHED, BLOCKED, SHAPE, THREAD, BUSY, LOGICAL, OPERATION, FAULT, LIMITS}
 use Rattle.meaning.specs.Limits.{inLimits}
 use Rattle.meaning.specs.Store.{Store}
-use Rattle.meaning.specs.Call.{Outcome, refused, left, reply, Entry, begin, step, calling, callStore}
+use Rattle.meaning.specs.Call.{Outcome, refused, left, reply, check, Entry, begin, step, calling, callStore}
 use Rattle.meaning.specs.Schedule.{Words}
 use Rattle.meaning.proofs.Words.{either-way, clash}
 use Rattle.meaning.proofs.Demand1.{no-fault, progress}
 use Rattle.store.specs.Layout.{size}
-use Rattle.store.specs.Area.{Bytes, decode, wellFormed}
+use Rattle.store.specs.Area.{Bytes, encode, decode, wellFormed}
 use Rattle.store.specs.Calls.{formatArea, callArea, stepArea, Grown}
-use Rattle.demands.specs.Demand1.{Refusals, Open, CanStep, SameSizes}
+use Rattle.demands.specs.Demand1.{known, rests, operable, numbered, Refusals, UnfinishedValue, Open, CanStep, SameSizes}
 use Rattle.demands.proofs.Refusals.{said, refusal-tables, calling-each, call-refusing}
 use Rattle.demands.proofs.Bridge.{after-call, grown-good, grown-inv}
 
@@ -48,8 +48,20 @@ module _ (a : List ℕ) where
         (λ l. rw l (λ x. refl)),
   )
 
-  pub unfinished-value : (e : Entry) → (callArea a e .number ≡ FINISHED → ⊥) → callArea a e .value ≡ 0
-  unfinished-value e = call-refusing a e .unfinished
+  check-value : (b : Bool) (number : ℕ) (o : Outcome) → reply encode a o .value ≡ 0 → reply encode a (check b number o) .value ≡ 0
+  check-value true number o x = x
+  check-value false number o x = refl
+
+  pub unfinished-value : UnfinishedValue a
+  unfinished-value =
+      record {
+        format =
+            λ t n p d. check-value (inLimits t n p d) LIMITS _ (check-value (eqb (length a) (size t n p)) SHAPE (left WENT 0 _) refl);
+        begin =
+            λ t op n c. check-value (wellFormed a) SHAPE _ (check-value (known a t) THREAD _ (check-value (rests a t) BUSY _
+            (check-value (operable op) OPERATION _ (check-value (numbered a op n) LOGICAL (left WENT 0 _) refl))));
+        step = λ t. call-refusing a (step t) .unfinished;
+      }
 
 -- ---- what a call keeps, of any area of bytes
 

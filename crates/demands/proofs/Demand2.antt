@@ -9,9 +9,11 @@
 --    unmap came after that write or if there is none.
 --  * area-manager-holds: what a number's block holds is what the manager holds of it, wherever no writer and no unmapper has its lock;
 --    so where all threads are idle, of every number (area-manager-holds-rest).
+--  * area-manager-maps, area-manager-maps-rest: there a number is mapped exactly where it is in the manager's mapped set. A read tells no
+--    difference between a written 0 and an unmapped number; the map does.
 --  * grown-one-block-each: two numbers never share a block.
 -- The definitions are those of the crate meaning, specs/Demands and specs/Manager. Assumes nothing.
-use mathlib.Core.Path.{_≡_, sym, subst}
+use mathlib.Core.Path.{_≡_, sym, ap, subst}
 use mathlib.Core.Bool.{true, false}
 use mathlib.Core.List.{List, _∷_, _++_}
 use Prim.Native.Nat.{ℕ, _<_, _≤_}
@@ -21,8 +23,9 @@ use Rattle.meaning.specs.Programs.{READ}
 use Rattle.meaning.specs.Call.{Entry, callStore, isIdle}
 use Rattle.meaning.specs.Manager.{initial, ebmRead}
 use Rattle.meaning.specs.Schedule.{Operation, Answered, run, order, begunBy, finishedBy, obeyAll, managed, ofManager}
-use Rattle.meaning.specs.Demands.{kept, leavesAlone, pending, Owed, requests, place, Gives, ManagerAnswers, Linearizes}
-use Rattle.meaning.proofs.ManagerAnswers.{manager-answers, manager-holds-kept, manager-holds-rest}
+use Rattle.meaning.specs.Demands.{isMapped, kept, leavesAlone, pending, Owed, requests, place, Gives, ManagerAnswers, Linearizes}
+use Rattle.meaning.proofs.ManagerView.{keeps, asked}
+use Rattle.meaning.proofs.ManagerAnswers.{manager-answers, manager-keeps, manager-keeps-rest}
 use Rattle.meaning.proofs.Linearizable.{linearizable, reads-give, read-finished, one-block-each}
 use Rattle.store.specs.Area.{decode}
 use Rattle.store.specs.Calls.{callArea, Formatted, Grown}
@@ -81,22 +84,42 @@ module _ (a : List ℕ) (f : Formatted a) (w : List Entry) (x : AllWords w) wher
         (λ t n p d limits is finished. read-finished t n p d limits w u l o l′ is op thread finished none) is finished,
   )
 
+  -- of number k: whether it is mapped, and what its block holds
+  area-keeps : (k : ℕ) →
+      ((v : ℕ) → heldBy v (decode (run callArea a w) .locks k) ≡ true → leavesAlone (decode (run callArea a w) .thread v) ≡ true) →
+      keeps (decode (run callArea a w)) k ≡ asked k (obeyAll initial (order callArea decode a w))
+  area-keeps k =
+      areas-follow a f w x
+      (λ h. ((v : ℕ) → heldBy v (h .left .locks k) ≡ true → leavesAlone (h .left .thread v) ≡ true) →
+      keeps (h .left) k ≡ asked k (obeyAll initial (h .order)))
+      (λ t n p d limits. manager-keeps t n p d limits w k)
+
+  area-keeps-rest : ((v : ℕ) → rests (run callArea a w) v ≡ true) → (k : ℕ) →
+      keeps (decode (run callArea a w)) k ≡ asked k (obeyAll initial (order callArea decode a w))
+  area-keeps-rest =
+      areas-follow a f w x
+      (λ h. ((v : ℕ) → isIdle (h .left .thread v) ≡ true) → (k : ℕ) → keeps (h .left) k ≡ asked k (obeyAll initial (h .order)))
+      (λ t n p d limits. manager-keeps-rest t n p d limits w)
+
   pub area-manager-holds : (k : ℕ) →
       ((v : ℕ) → heldBy v (decode (run callArea a w) .locks k) ≡ true → leavesAlone (decode (run callArea a w) .thread v) ≡ true) →
       kept (decode (run callArea a w)) k ≡ ebmRead k (obeyAll initial (order callArea decode a w))
-  area-manager-holds k =
-      areas-follow a f w x
-      (λ h. ((v : ℕ) → heldBy v (h .left .locks k) ≡ true → leavesAlone (h .left .thread v) ≡ true) →
-      kept (h .left) k ≡ ebmRead k (obeyAll initial (h .order)))
-      (λ t n p d limits. manager-holds-kept t n p d limits w k)
+  area-manager-holds k alone = ap (λ x. x .content) (area-keeps k alone)
+
+  -- "a written 0 is as good a content as any", and unmap "removes the number from the mapped set"
+  pub area-manager-maps : (k : ℕ) →
+      ((v : ℕ) → heldBy v (decode (run callArea a w) .locks k) ≡ true → leavesAlone (decode (run callArea a w) .thread v) ≡ true) →
+      isMapped (decode (run callArea a w)) k ≡ obeyAll initial (order callArea decode a w) .mapped k
+  area-manager-maps k alone = ap (λ x. x .mapped) (area-keeps k alone)
 
   -- and at rest of every number
   pub area-manager-holds-rest : ((v : ℕ) → rests (run callArea a w) v ≡ true) → (k : ℕ) →
       kept (decode (run callArea a w)) k ≡ ebmRead k (obeyAll initial (order callArea decode a w))
-  area-manager-holds-rest =
-      areas-follow a f w x
-      (λ h. ((v : ℕ) → isIdle (h .left .thread v) ≡ true) → (k : ℕ) → kept (h .left) k ≡ ebmRead k (obeyAll initial (h .order)))
-      (λ t n p d limits. manager-holds-rest t n p d limits w)
+  area-manager-holds-rest rest k = ap (λ x. x .content) (area-keeps-rest rest k)
+
+  pub area-manager-maps-rest : ((v : ℕ) → rests (run callArea a w) v ≡ true) → (k : ℕ) →
+      isMapped (decode (run callArea a w)) k ≡ obeyAll initial (order callArea decode a w) .mapped k
+  area-manager-maps-rest rest k = ap (λ x. x .mapped) (area-keeps-rest rest k)
 
 pub grown-one-block-each : (a : List ℕ) → Grown a → (k k′ : ℕ) → free (decode a .map k) ≡ false → free (decode a .map k′) ≡ false →
     (k ≡ k′ → ⊥) → named (decode a .map k) ≡ named (decode a .map k′) → ⊥

@@ -4,6 +4,7 @@ pub mod Bridge
 pub mod History
 pub mod Refusals
 pub mod Demand1
+pub mod Guarded
 pub mod Demand2
 pub mod EitherOrder
 pub mod Demand3

@@ -5,6 +5,7 @@
 --    the bytes are others.
 --  * overtaking-comes: a read that overtakes a write stands before it in the order of last locks and gives empty; the bytes are those of
 --    the operations run one at a time in that order.
+--  * after-U10-comes: a read finishes with empty after U10, while the unmap is still open, and stands after it in the order.
 -- Assumes nothing.
 use mathlib.Core.Path.{_≡_, refl}
 use mathlib.Core.Bool.{Bool, true, _&&_}
@@ -22,7 +23,7 @@ use Rattle.meaning.proofs.Words.{and-left, and-right}
 use Rattle.store.specs.Layout.{size}
 use Rattle.store.specs.Area.{Bytes, wellFormed}
 use Rattle.store.specs.Calls.{format, Grown}
-use Rattle.demands.specs.Reached.{met, needs, Meeting, formed, reached, meet, meetings, Each, overlap, overtaking, overtaken}
+use Rattle.demands.specs.Reached.{met, needs, Meeting, formed, reached, meet, meetings, Each, overlap, overtaking, overtaken, slipping, slipped}
 use Rattle.demands.specs.Schedule.{AllWords}
 use Rattle.demands.proofs.Bridge.{run-grown}
 
@@ -37,6 +38,10 @@ meetings-come = refl
 pub overtaking-comes : overlap (formed 2 1 2 1 .after) overtaking ≡ overtaken
 unfolding wellFormed
 overtaking-comes = refl
+
+pub after-U10-comes : overlap (formed 2 1 2 1 .after) slipping ≡ slipped
+unfolding wellFormed
+after-U10-comes = refl
 
 -- ---- the meetings' areas are grown from fresh
 

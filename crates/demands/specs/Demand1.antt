@@ -1,4 +1,4 @@
--- What demand 1 over areas speaks of: the tables of refusals, who is open, and who can step. The calls are those of the crate store.
+-- What demand 1 over areas speaks of: the tables of refusals, values, who is open, and who can step. The calls are those of the crate store.
 use mathlib.Core.Path.{_≡_}
 use mathlib.Core.Bool.{Bool, true, false, not, _||_}
 use mathlib.Core.List.{List, [], _∷_}
@@ -84,6 +84,14 @@ pub record Refusals (a : List ℕ) : Type 0 where
   pub format : (t n p d : ℕ) → FormatRefusals a t n p d
   pub begin : (t op n c : ℕ) → BeginRefusals a t op n c
   pub step : (t : ℕ) → StepRefusals a t
+
+-- ---- values
+
+-- "Each call gives a number and a value; the value is 0 except where an operation finishes": format and begin finish none
+pub record UnfinishedValue (a : List ℕ) : Type 0 where
+  pub format : (t n p d : ℕ) → formatArea a t n p d .value ≡ 0
+  pub begin : (t op n c : ℕ) → beginArea a t op n c .value ≡ 0
+  pub step : (t : ℕ) → (stepArea a t .number ≡ FINISHED → ⊥) → stepArea a t .value ≡ 0
 
 -- ---- threads
 

@@ -207,12 +207,13 @@ Each A (m ∷ l) = A m × Each A l
 -- ---- operations that overlap
 
 -- what a schedule comes to, on a formatted area of two threads: the operations in the order of their last locks, what each thread has
--- finished with, whether both are idle, and whether the bytes are those that the operations leave one at a time
+-- finished with, which of the two is idle, and whether the bytes are those that the operations leave one at a time
 pub record Overlapped : Type 0 where
   pub order : List Operation
   pub zeroth : List Answered
   pub other : List Answered
-  pub resting : Bool
+  pub zeroth-rests : Bool
+  pub other-rests : Bool
   pub alike : Bool
 
 abbrev pub overlap : List ℕ → List Entry → Overlapped
@@ -221,7 +222,8 @@ overlap a w =
       order = order callArea decode a w;
       zeroth = finishedBy callArea decode a 0 w;
       other = finishedBy callArea decode a 1 w;
-      resting = rests (run callArea a w) 0 && rests (run callArea a w) 1;
+      zeroth-rests = rests (run callArea a w) 0;
+      other-rests = rests (run callArea a w) 1;
       alike = sameBytes (run callArea a w) (run callArea a (one-by-one callArea decode a w));
     }
 
@@ -240,6 +242,24 @@ overtaken =
       order = operation 1 READ 0 0 ∷ operation 0 WRITE 0 7 ∷ operation 1 READ 0 0 ∷ [];
       zeroth = answered WRITE 0 ∷ [];
       other = answered READ 0 ∷ answered READ 7 ∷ [];
-      resting = true;
+      zeroth-rests = true;
+      other-rests = true;
       alike = true;
+    }
+
+-- "after U10 a read may finish with empty while the unmap is still open": thread 0 writes number 0 and unmaps it, up to U10; then thread 1
+-- reads it.
+abbrev pub slipping : List Entry
+slipping = does 0 WRITE 0 7 16 (does 0 UNMAP 0 0 10 (does 1 READ 0 0 3 []))
+
+-- the read stands after the unmap, which is still open and has its place; run whole, the unmap would have released H
+abbrev pub slipped : Overlapped
+slipped =
+    record {
+      order = operation 0 WRITE 0 7 ∷ operation 0 UNMAP 0 0 ∷ operation 1 READ 0 0 ∷ [];
+      zeroth = answered WRITE 0 ∷ [];
+      other = answered READ 0 ∷ [];
+      zeroth-rests = false;
+      other-rests = true;
+      alike = false;
     }

@@ -92,7 +92,7 @@ abbrev pub n-unmapped : Thread → Bool
 n-unmapped = row (4 – 10) never (7 – 10) never
 
 abbrev pub n-on-p : Thread → Bool
-n-on-p = row (11 – 15) (3 – 5) (4 – 6) (6 – 12)
+n-on-p = row (11 – 16) (3 – 5) (4 – 6) (6 – 12)
 
 abbrev pub n-on-q : Thread → Bool
 n-on-q = row never never never (13 – 16)

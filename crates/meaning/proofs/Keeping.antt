@@ -2,7 +2,7 @@
 -- what another thread knows of a word, that thread has what guards it (the table, tested at each line by computation). So one law
 -- a kind of fact is enough, and no two lines or acts are compared.
 -- Assumes nothing.
-use mathlib.Core.Path.{_≡_, refl, sym, _∙_, subst, fun-ext}
+use mathlib.Core.Path.{_≡_, refl, sym, ap, _∙_, subst, fun-ext}
 use mathlib.Core.Bool.{Bool, true, false, not, cond, _&&_, _||_, or-true}
 use mathlib.Core.Logic.{inl, inr}
 use Prim.Native.Nat.{ℕ, zero, suc, _+_, _-_, _<_, _≤_}
@@ -24,7 +24,7 @@ use Rattle.meaning.specs.Step.{become, put, apply}
 use Rattle.meaning.specs.Demands.{kept}
 use Rattle.meaning.proofs.Words.{same, either-way, and-left, and-right, or-way, within-true, by-other, none-held, free-held, held-is, held-once, naming-named, upd-other, upd-each}
 use Rattle.meaning.proofs.Invariant.{takesH, takesN, takesLock, takes, gives, holdsH, holdsN, ownsHeaders, ownsP, ownsQ, n-unmapped, n-on-p, n-on-q, p-free, q-free, p-headed, q-headed, h-heads-p, chosen-now, c-of-p, q-has-c, c-of-n, If, ownsBlock, leadsAstray, Holds, Facts, Stands, Changes, Puts, Passes, GuardsMap, GuardsHeader, GuardsContent, GuardsWear, Guards, Agrees, Back, Astray, Inv}
-use Rattle.meaning.proofs.ManagerView.{leaves, promised}
+use Rattle.meaning.proofs.ManagerView.{keeps, leaves, promised}
 
 -- ---- a rule of the table, tested at every line
 
@@ -101,10 +101,10 @@ q-owned r x = rw (x, same (r .q))
 
 -- ---- a step of t, seen by another thread v
 
--- what a number's block holds stays as it is where t doesn't hold the number's lock
-pub unheld-kept : (s : Store) (t : ℕ) (r : Thread) (e : Effect) → Guards s t r e → (r′ : Thread) (k : ℕ) →
-    (heldBy t (s .locks k) ≡ true → ⊥) → kept (apply s t r′ e) k ≡ kept s k
-unheld-kept s t r e G r′ k lacks =
+-- whether a number is mapped and what its block holds stays as it is where t doesn't hold the number's lock
+pub unheld-keeps : (s : Store) (t : ℕ) (r : Thread) (e : Effect) → Guards s t r e → (r′ : Thread) (k : ℕ) →
+    (heldBy t (s .locks k) ≡ true → ⊥) → keeps (apply s t r′ e) k ≡ keeps s k
+unheld-keeps s t r e G r′ k lacks =
     rw (put-kept (e .map) (s .map) (λ k w. GuardsMap s t k) (G .map) k (λ w g. lacks (g .locks)))
     (either-way (free (s .map k)) (λ f. rw f)
     (λ f. rw (
@@ -112,6 +112,10 @@ unheld-kept s t r e G r′ k lacks =
       put-kept (e .content) (s .content) (λ m w. GuardsContent s t m) (G .content) (named (s .map k))
           (λ w g. lacks (g .locks k (naming-named (s .map k) f))),
     )))
+
+pub unheld-kept : (s : Store) (t : ℕ) (r : Thread) (e : Effect) → Guards s t r e → (r′ : Thread) (k : ℕ) →
+    (heldBy t (s .locks k) ≡ true → ⊥) → kept (apply s t r′ e) k ≡ kept s k
+unheld-kept s t r e G r′ k lacks = ap (λ x. x .content) (unheld-keeps s t r e G r′ k lacks)
 
 module _ (s : Store) (I : Inv s) (t : ℕ) (r : Thread) (e : Effect) (G : Guards s t r e) (v : ℕ) (apart : t ≡ v → ⊥) where
   -- t has no lock, owner or block that v has
@@ -211,11 +215,13 @@ pub record Moves (s : Store) (t : ℕ) (r r′ : Thread) (e : Effect) : Type 0 w
   pub mapped : (m k : ℕ) → put (e .header) (s .header) m ≡ naming k →
       (s .header m ≡ naming k → Back (s .map) m k (leadsAstray r m ≡ true)) →
       Back (put (e .map) (s .map)) m k (leadsAstray r′ m ≡ true)
-  -- what t's number will hold stays as it is, but where t takes the number's lock: there it becomes what t's operation leaves
-  pub promise : promised r′ (kept (apply s t r′ e) (r .n)) ≡
-      cond (takesN r) (leaves (r .op) (r .c) (kept s (r .n))) (promised r (kept s (r .n)))
+  -- what will become of t's number stays as it is, but where t takes the number's lock: there it becomes what t's operation leaves
+  pub promise : promised r′ (keeps (apply s t r′ e) (r .n)) ≡
+      cond (takesN r) (leaves (r .op) (r .c) (keeps s (r .n))) (promised r (keeps s (r .n)))
   pub same-n : If (holdsN r′) (r′ .n ≡ r .n)
   pub taken : If (takesN r) (holdsN r′ ≡ true)
+  -- who changes a wear holds H afterwards too
+  pub still-H : Puts (e .wear) (λ m w. holdsH r′ ≡ true)
 
 module _ (s : Store) (I : Inv s) (t : ℕ) (r′ : Thread) (e : Effect) (M : Moves s t (s .thread t) r′ e) where
   mapped-kept : (m k : ℕ) → put (e .header) (s .header) m ≡ naming k →

@@ -11,10 +11,9 @@ use Rattle.meaning.specs.Choosing.{toBlock}
 use Rattle.meaning.specs.declared.Found.the-variants.{At}
 use Rattle.meaning.specs.Programs.{LEVEL, actAt}
 use Rattle.meaning.specs.Step.{onContent, onMap, perform, apply}
-use Rattle.meaning.specs.Demands.{kept}
 use Rattle.meaning.proofs.Words.{either-way, same, naming-named, named-below, naming-not-free, naming-once, upd-same, upd-other}
 use Rattle.meaning.proofs.Sharing.{owner-free, mapped-block-free, free-block-free, settled-owner, numbers-blocks, to-found, from-below, content-guarded}
-use Rattle.meaning.proofs.Lines.{for-H, for-N, Fine, at, Line, From, _▸_, n-held, p-held, q-held, second-taken, second-given, mapped-headed, mapped-freed, headed-apart, headed-agrees, freed-agrees, moved-agrees, moved-mapped, kept-on, facts-idle, keeping}
+use Rattle.meaning.proofs.Lines.{for-H, for-N, Fine, at, Line, From, _▸_, n-held, p-held, q-held, second-taken, second-given, mapped-headed, mapped-freed, headed-apart, headed-agrees, freed-agrees, moved-agrees, moved-mapped, keeps-moved, facts-idle, keeping}
 
 module _ (s : Store) (t : ℕ) where
   L1 : Line s t LEVEL 1
@@ -86,9 +85,8 @@ module _ (s : Store) (t : ℕ) where
       let guarded = content-guarded s (H .inv) t n q (H .facts .headed-q) (n-held H refl) own in
       let copied = H .facts .copied ∙ sym (upd-other (s .content) q p c (λ e. H .facts .apart (sym e))) in
       let pasted = upd-same (s .content) q c in
-      let left : kept (apply s t (at LEVEL 12 n c p q h) (onContent q c)) n ≡ kept s n =
-      kept-on (apply s t (at LEVEL 12 n c p q h) (onContent q c)) n p (H .facts .on-p) ∙ sym copied ∙ H .facts .copied ∙
-      sym (kept-on s n p (H .facts .on-p)) in
+      let pasting = apply s t (at LEVEL 12 n c p q h) (onContent q c) in
+      let left = keeps-moved s pasting n p p (H .facts .on-p) (H .facts .on-p) (sym copied ∙ H .facts .copied) in
       rw (own, naming-not-free n (s .header q) (H .facts .headed-q)) (search (keeping, H .holds .locks, H .holds .own))
 
   L12 : Line s t LEVEL 12
@@ -100,9 +98,8 @@ module _ (s : Store) (t : ℕ) where
       (λ m x. eqb-true q m (rw (or-false (eqb q m)) at x))
       (λ m on. eq-eqb p m (naming-once p m (sym (H .facts .on-p) ∙ on))) in
       let on = upd-same (s .map) n (naming q) in
-      let left : kept (apply s t (at LEVEL 13 n c p q h) (onMap n (naming q))) n ≡ kept s n =
-      kept-on (apply s t (at LEVEL 13 n c p q h) (onMap n (naming q))) n q on ∙ H .facts .pasted ∙ H .facts .copied ∙
-      sym (kept-on s n p (H .facts .on-p)) in
+      let moving = apply s t (at LEVEL 13 n c p q h) (onMap n (naming q)) in
+      let left = keeps-moved s moving n p q (H .facts .on-p) on (H .facts .pasted ∙ H .facts .copied) in
       search (keeping, mapped, H .holds .locks, H .holds .own)
 
   L13 : Line s t LEVEL 13

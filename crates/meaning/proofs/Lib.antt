@@ -13,6 +13,7 @@ pub mod Level
 pub mod EveryLine
 pub mod Called
 pub mod Demand1
+pub mod Guarded
 pub mod EitherOrder
 pub mod Schedules
 pub mod ManagerLaws

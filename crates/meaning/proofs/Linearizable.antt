@@ -125,7 +125,7 @@ change-leaves k o m x =
     let z = and-right (not (eqb (o .op) LEVEL)) _ x in
     let r = not-true (eqb (o .op) READ) (and-left (not (eqb (o .op) READ)) _ z) in
     let n = and-right (not (eqb (o .op) READ)) (eqb (o .number) k) z in
-    obey-reads o m k ∙ rw (n, y, r)
+    obey-reads o m k ∙ either-way (eqb (o .op) WRITE) (λ w. rw (n, y, w)) (λ w. rw (n, y, w, r))
 
 pub reads-give : (k : ℕ) (l : List Operation) → Gives k l (ebmRead k (obeyAll initial l))
 reads-give k l = go (last-change k l)

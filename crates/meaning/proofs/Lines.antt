@@ -2,7 +2,7 @@
 -- and what becomes of map and headers where a line writes there.
 -- Assumes nothing.
 use mathlib.Core.Path.{_≡_, refl, sym, ap, _∙_, subst}
-use mathlib.Core.Bool.{Bool, true, false, _||_}
+use mathlib.Core.Bool.{Bool, true, false, not, _||_}
 use mathlib.Core.List.{[], _∷_}
 use mathlib.Core.Logic.{_⊎_, inl, inr}
 use Prim.Native.Nat.{ℕ, zero, suc, _+_, _<_, _≤_}
@@ -22,7 +22,7 @@ use Rattle.meaning.specs.Schedule.{emit, ofManager}
 use Rattle.meaning.specs.Demands.{kept}
 use Rattle.meaning.proofs.Words.{same, either-way, clash, by-held, none-held, naming-once, naming-not-none, naming-not-free, naming-named, named-naming, named-below, upd-each}
 use Rattle.meaning.proofs.Invariant.{takes, gives, holdsH, holdsN, ownsP, ownsQ, Holds, Facts, Agrees, Back, Inv}
-use Rattle.meaning.proofs.ManagerView.{places, answered, due}
+use Rattle.meaning.proofs.ManagerView.{keeps, places, answered, due}
 use Rattle.meaning.proofs.Keeping.{p-owned, q-owned, Moves}
 
 infixr 30 _▸_
@@ -236,6 +236,16 @@ looked-up s I n f = (naming-named (s .map n) f, named-below (s .map n) (s .block
 -- what a mapped number's block holds
 pub kept-on : (s : Store) (n m : ℕ) → s .map n ≡ naming m → kept s n ≡ s .content m
 kept-on s n m on = rw (naming-not-free m (s .map n) on, on, named-naming m)
+
+-- so a mapped number that holds c
+pub keeps-on : (s : Store) (n m c : ℕ) → s .map n ≡ naming m → kept s n ≡ c → keeps s n ≡ record { mapped = true; content = c }
+keeps-on s n m c on is = λ i. record { mapped = not (naming-not-free m (s .map n) on i); content = is i }
+
+-- and one that is moved from block m to m′ with its content
+pub keeps-moved : (s s′ : Store) (n m m′ : ℕ) → s .map n ≡ naming m → s′ .map n ≡ naming m′ → s′ .content m′ ≡ s .content m →
+    keeps s′ n ≡ keeps s n
+keeps-moved s s′ n m m′ on on′ is =
+    keeps-on s′ n m′ (s .content m) on′ (kept-on s′ n m′ on′ ∙ is) ∙ sym (keeps-on s n m (s .content m) on (kept-on s n m on))
 
 -- what is known of an idle thread
 pub facts-idle : (s : Store) → 0 < s .numbers → s .numbers < s .blocks → Facts s idle

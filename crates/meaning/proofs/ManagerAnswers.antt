@@ -1,6 +1,6 @@
--- Demand 2, over stores: the manager, obeying the operations in the order of their last locks, answers what the machine answers, and holds
--- what the store says. One call at a time (`serves`): the manager's content of each number is what the store says it will hold, and
--- what is owed is answered later, by the step that finishes.
+-- Demand 2, over stores: the manager, obeying the operations in the order of their last locks, answers what the machine answers, and has
+-- mapped and holds what the store says. One call at a time (`serves`): what the manager has of each number is what the store says will
+-- become of it, and what is owed is answered later, by the step that finishes.
 -- Assumes nothing.
 use mathlib.Core.Path.{_≡_, refl, sym, ap, _∙_, subst}
 use mathlib.Core.Bool.{Bool, true, false, not, cond, _&&_, or-false}
@@ -22,22 +22,22 @@ use Rattle.meaning.specs.Call.{Entry, begin, step, callStore, isIdle, be
 use Rattle.meaning.specs.Manager.{Manager, initial, ebmRead}
 use Rattle.meaning.specs.Schedule.{Operation, operation, Answered, emit, takesLast, pastLast, placed, run, placing, finishing, order, finishedBy, obeyAll, managed, ofManager}
 use Rattle.meaning.specs.Demands.{kept, leavesAlone, Owed, none-owed, one-owed, ManagerAnswers}
-use Rattle.meaning.proofs.Words.{same, either-way, clash, or-way, two-ways, free-held, held-by, upd-same}
+use Rattle.meaning.proofs.Words.{same, either-way, clash, or-way, two-ways, held-by, upd-same}
 use Rattle.meaning.proofs.Invariant.{takesN, Stands, Inv}
 use Rattle.meaning.proofs.Keeping.{Moves, up}
 use Rattle.meaning.proofs.Sharing.{fact}
 use Rattle.meaning.proofs.Lines.{GoesOn}
 use Rattle.meaning.proofs.EveryLine.{idle-is}
 use Rattle.meaning.proofs.Demand1.{inv-fresh, inv-call, inv-run}
-use Rattle.meaning.proofs.ManagerView.{leaves, future, owes, answered, due, owing}
+use Rattle.meaning.proofs.ManagerView.{keeps, asked, leaves, future, owes, answered, due, owing}
 use Rattle.meaning.proofs.Called.{Called, stays, opens, goes, ends, call-cases, replied}
 use Rattle.meaning.proofs.Schedules.{placing-append, finishing-append}
-use Rattle.meaning.proofs.ManagerLaws.{operation-reads, level-obeys, obeyAll-append, managed-passes}
-use Rattle.meaning.proofs.ManagerStep.{future-free, future-held, future-step, takes-kept, owing-others}
+use Rattle.meaning.proofs.ManagerLaws.{operation-asked, level-obeys, obeyAll-append, managed-passes}
+use Rattle.meaning.proofs.ManagerStep.{future-free, future-held, future-step, takes-keeps, owing-others}
 
--- the manager holds what the store says
+-- the manager has of each number what the store says will become of it
 abbrev pub Matches : Store → Manager → Type 0
-Matches s m = (k : ℕ) → ebmRead k m ≡ future s k
+Matches s m = (k : ℕ) → asked k m ≡ future s k
 
 -- ---- where an operation of the manager's takes its last lock
 
@@ -64,7 +64,7 @@ module _ (s : Store) (I : Inv s) (m : Manager) (M : Matches s m) where
   refused (begin t op n c) number went finished x = record { matches = rw x M; answers = λ u l. rw x }
   refused (step t) number went finished x = record { matches = rw (x, went) M; answers = λ u l. rw (x, went, finished) }
 
-  -- where t takes no number's lock, no number's content changes
+  -- where t takes no number's lock, no number changes
   quiet : (t : ℕ) (r′ : Thread) (e : Effect) → Moves s t (s .thread t) r′ e → takesN (s .thread t) ≡ false →
       Matches (apply s t r′ e) m
   quiet t r′ e g x k = M k ∙ sym (future-step s I t r′ e g k ∙ rw x)
@@ -96,15 +96,15 @@ module _ (s : Store) (I : Inv s) (m : Manager) (M : Matches s m) where
   abbrev last : ℕ → Bool
   last t = takesLast s (s .thread t)
 
-  -- what the manager reads once it is placed
-  placed-reads : (t : ℕ) → isIdle (s .thread t) ≡ false → (k : ℕ) → ebmRead k (obeyAll m (emit (last t) (mine t) [])) ≡
-      cond (takesN (s .thread t) && eqb (s .thread t .n) k) (leaves (s .thread t .op) (s .thread t .c) (ebmRead k m)) (ebmRead k m)
-  placed-reads t busy k =
+  -- what the manager has of a number once it is placed
+  placed-asked : (t : ℕ) → isIdle (s .thread t) ≡ false → (k : ℕ) → asked k (obeyAll m (emit (last t) (mine t) [])) ≡
+      cond (takesN (s .thread t) && eqb (s .thread t .n) k) (leaves (s .thread t .op) (s .thread t .c) (asked k m)) (asked k m)
+  placed-asked t busy k =
       let r = s .thread t in
       either-way (eqb (r .op) LEVEL)
       (λ x. rw (level-obeys m (last t) (mine t) x, x) (either-way (takesN r && eqb (r .n) k) (λ y. rw y) (λ y. rw y)))
       (λ x. rw (takes-last s r (I .stands t) busy x) (either-way (takesN r)
-      (λ y. rw y (operation-reads t (r .op) (r .n) (r .c) x m k)) (λ y. rw y)))
+      (λ y. rw y (operation-asked t (r .op) (r .n) (r .c) x m k)) (λ y. rw y)))
 
   -- what it adds to what is owed is what the manager answers
   placed-answers : (t : ℕ) → isIdle (s .thread t) ≡ false → (r′ : Thread) (e : Effect) → GoesOn s t (s .thread t) r′ e →
@@ -118,7 +118,7 @@ module _ (s : Store) (I : Inv s) (m : Manager) (M : Matches s m) where
       (λ y.
       let nothing-due : owes r ≡ false =
       either-way (owes r) (λ z. clash (up takesN (λ r. not (owes r)) refl r (I .stands t) y) (rw z)) (λ z. z) in
-      let content : ebmRead (r .n) m ≡ kept s (r .n) = M (r .n) ∙ takes-kept s I t r′ e (g .moves) y in
+      let content : ebmRead (r .n) m ≡ kept s (r .n) = ap (λ x. x .content) (M (r .n) ∙ takes-keeps s I t r′ e (g .moves) y) in
       rw (y, x, same t, nothing-due, content)) (λ y. rw (y, x)))))
 
   -- a thread that ends takes no lock
@@ -134,7 +134,7 @@ module _ (s : Store) (I : Inv s) (m : Manager) (M : Matches s m) where
       }
   serves (goes t r′ e below busy g x) =
       record {
-        matches = rw x (λ k. placed-reads t busy k ∙ rw (M k) (sym (future-step s I t r′ e (g .moves) k)));
+        matches = rw x (λ k. placed-asked t busy k ∙ rw (M k) (sym (future-step s I t r′ e (g .moves) k)));
         answers =
             λ u l. rw x (owing-each t r′ e (g .moves)
             (λ u x y. x ++ managed m u (emit (last t) (mine t) l) ≡ y ++ managed (obeyAll m (emit (last t) (mine t) [])) u l)
@@ -183,7 +183,7 @@ matches-run s I m M (e ∷ w) =
 
 -- ---- demand 2
 
-future-alone : (s : Store) (k : ℕ) → ((v : ℕ) → heldBy v (s .locks k) ≡ true → leavesAlone (s .thread v) ≡ true) → future s k ≡ kept s k
+future-alone : (s : Store) (k : ℕ) → ((v : ℕ) → heldBy v (s .locks k) ≡ true → leavesAlone (s .thread v) ≡ true) → future s k ≡ keeps s k
 future-alone s k alone =
     either-way (free (s .locks k)) (λ f. future-free s k f)
     (λ f.
@@ -244,26 +244,20 @@ module _ (t n p d : ℕ) (limits : inLimits t n p d ≡ true) (w : List Entry) w
       (managed initial u (order callStore (λ s. s) (fresh t n p d) w))
   finished-first u = rw (manager-owing u) (sym (take-at _ _ _ refl))
 
-  pub manager-holds : (k : ℕ) →
-      ebmRead k (obeyAll initial (order callStore (λ s. s) (fresh t n p d) w)) ≡ future (run callStore (fresh t n p d) w) k
-  manager-holds = matches-run (fresh t n p d) (inv-fresh t n p d limits) initial (λ k. refl) w
+  pub manager-will : (k : ℕ) →
+      asked k (obeyAll initial (order callStore (λ s. s) (fresh t n p d) w)) ≡ future (run callStore (fresh t n p d) w) k
+  manager-will = matches-run (fresh t n p d) (inv-fresh t n p d limits) initial (λ k. refl) w
 
-  -- what k's block holds, 0 where k is unmapped, is what the manager holds: where only a reader or a leveller may have k's lock
-  pub manager-holds-kept : (k : ℕ) →
+  -- whether k is mapped, and what its block holds, is what the manager has of it: where only a reader or a leveller may have k's lock
+  pub manager-keeps : (k : ℕ) →
       ((v : ℕ) → heldBy v (run callStore (fresh t n p d) w .locks k) ≡ true →
       leavesAlone (run callStore (fresh t n p d) w .thread v) ≡ true) →
-      kept (run callStore (fresh t n p d) w) k ≡ ebmRead k (obeyAll initial (order callStore (λ s. s) (fresh t n p d) w))
-  manager-holds-kept k alone = sym (manager-holds k ∙ future-alone (run callStore (fresh t n p d) w) k alone)
+      keeps (run callStore (fresh t n p d) w) k ≡ asked k (obeyAll initial (order callStore (λ s. s) (fresh t n p d) w))
+  manager-keeps k alone = sym (manager-will k ∙ future-alone (run callStore (fresh t n p d) w) k alone)
 
-  -- so where k's lock is free
-  pub manager-holds-free : (k : ℕ) → free (run callStore (fresh t n p d) w .locks k) ≡ true →
-      kept (run callStore (fresh t n p d) w) k ≡ ebmRead k (obeyAll initial (order callStore (λ s. s) (fresh t n p d) w))
-  manager-holds-free k f =
-      manager-holds-kept k (λ v h. clash h (free-held v (run callStore (fresh t n p d) w .locks k) f))
-
-  -- and at rest, where all threads are idle, of every number
-  pub manager-holds-rest : ((v : ℕ) → isIdle (run callStore (fresh t n p d) w .thread v) ≡ true) → (k : ℕ) →
-      kept (run callStore (fresh t n p d) w) k ≡ ebmRead k (obeyAll initial (order callStore (λ s. s) (fresh t n p d) w))
-  manager-holds-rest rest k =
+  -- so at rest, where all threads are idle, of every number
+  pub manager-keeps-rest : ((v : ℕ) → isIdle (run callStore (fresh t n p d) w .thread v) ≡ true) → (k : ℕ) →
+      keeps (run callStore (fresh t n p d) w) k ≡ asked k (obeyAll initial (order callStore (λ s. s) (fresh t n p d) w))
+  manager-keeps-rest rest k =
       let I = inv-run (fresh t n p d) (inv-fresh t n p d limits) w in
-      manager-holds-kept k (λ v h. clash h (I .holds v .locks k ∙ rw (idle-is _ (I .stands v) (rest v))))
+      manager-keeps k (λ v h. clash h (I .holds v .locks k ∙ rw (idle-is _ (I .stands v) (rest v))))

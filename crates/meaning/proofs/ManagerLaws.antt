@@ -1,6 +1,6 @@
--- Laws of the manager itself, over lists of operations: what it reads after an operation and after a list, and what it answers.
+-- Laws of the manager itself, over lists of operations: what it has of a number after an operation and after a list, and what it answers.
 -- Nothing here speaks of a store. Assumes nothing.
-use mathlib.Core.Path.{_≡_, refl, _∙_}
+use mathlib.Core.Path.{_≡_, refl, ap, _∙_}
 use mathlib.Core.Bool.{Bool, true, false, not, cond, _&&_}
 use mathlib.Core.List.{List, [], _∷_, _++_}
 use Prim.Native.Nat.{ℕ}
@@ -9,23 +9,28 @@ use Rattle.meaning.specs.Programs.{WRITE, READ, LEVEL}
 use Rattle.meaning.specs.Manager.{Manager, ebmRead}
 use Rattle.meaning.specs.Schedule.{Operation, operation, emit, obey, obeyAll, managed}
 use Rattle.meaning.proofs.Words.{either-way}
-use Rattle.meaning.proofs.ManagerView.{leaves}
+use Rattle.meaning.proofs.ManagerView.{asked, leaves}
 
--- an operation changes what its own number holds, and no other
-pub obey-reads : (o : Operation) (m : Manager) (k : ℕ) →
-    ebmRead k (obey o m) ≡ cond (eqb (o .number) k) (leaves (o .op) (o .word) (ebmRead k m)) (ebmRead k m)
-obey-reads o m k =
+-- an operation changes its own number, and no other
+pub obey-asked : (o : Operation) (m : Manager) (k : ℕ) →
+    asked k (obey o m) ≡ cond (eqb (o .number) k) (leaves (o .op) (o .word) (asked k m)) (asked k m)
+obey-asked o m k =
     either-way (eqb (o .number) k)
     (λ x. either-way (eqb (o .op) LEVEL) (λ y. rw (x, y)) (λ y. either-way (eqb (o .op) WRITE) (λ z. rw (y, z, x))
     (λ z. either-way (eqb (o .op) READ) (λ w. rw (x, y, z, w)) (λ w. rw (y, z, w, x)))))
     (λ x. either-way (eqb (o .op) LEVEL) (λ y. rw (x, y)) (λ y. either-way (eqb (o .op) WRITE) (λ z. rw (y, z, x))
     (λ z. either-way (eqb (o .op) READ) (λ w. rw (x, y, z, w)) (λ w. rw (y, z, w, x)))))
 
+-- so what it reads
+pub obey-reads : (o : Operation) (m : Manager) (k : ℕ) →
+    ebmRead k (obey o m) ≡ cond (eqb (o .number) k) (leaves (o .op) (o .word) (asked k m)) (asked k m) .content
+obey-reads o m k = ap (λ x. x .content) (obey-asked o m k)
+
 -- the same of an operation as begin stores it, which is no levelling
-pub operation-reads : (t op n c : ℕ) → eqb op LEVEL ≡ false → (m : Manager) (k : ℕ) →
-    ebmRead k (obey (operation t op n c) m) ≡ cond (eqb n k) (leaves op c (ebmRead k m)) (ebmRead k m)
-operation-reads t op n c other m k =
-    obey-reads (operation t op n c) m k ∙ either-way (eqb op WRITE) (λ x. rw (other, x)) (λ x. rw (other, x))
+pub operation-asked : (t op n c : ℕ) → eqb op LEVEL ≡ false → (m : Manager) (k : ℕ) →
+    asked k (obey (operation t op n c) m) ≡ cond (eqb n k) (leaves op c (asked k m)) (asked k m)
+operation-asked t op n c other m k =
+    obey-asked (operation t op n c) m k ∙ either-way (eqb op WRITE) (λ x. rw (other, x)) (λ x. rw (other, x))
 
 -- a levelling changes nothing
 pub level-obeys : (m : Manager) (b : Bool) (o : Operation) → eqb (o .op) LEVEL ≡ true → obeyAll m (emit b o []) ≡ m

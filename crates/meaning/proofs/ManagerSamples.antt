@@ -39,7 +39,7 @@ read-before-U10 = refl
 
 -- from U2 on what number 0 will hold is empty, while its block still holds 7
 pub unmap-decided :
-    kept (run callStore (fresh 2 1 2 1) (overtaken 2)) 0 ∷ future (run callStore (fresh 2 1 2 1) (overtaken 2)) 0 ∷ [] ≡ 7 ∷ 0 ∷ []
+    kept (run callStore (fresh 2 1 2 1) (overtaken 2)) 0 ∷ future (run callStore (fresh 2 1 2 1) (overtaken 2)) 0 .content ∷ [] ≡ 7 ∷ 0 ∷ []
 unmap-decided = refl
 
 -- ---- a written 0

@@ -1,9 +1,9 @@
--- What a store says of the atomic manager of specs/Manager, whatever threads are at work in it: what each number will hold, `future`, and
--- which answer is owed to a thread that has taken its last lock, `owing`. A writer, reader or unmapper takes its last lock, n's, at
--- W2, R1 and U2, and holds it while it works on n: so what n will hold is what that thread's operation leaves there, and nobody
--- else changes it. Where n's lock is free it is what n's block holds.
+-- What a store says of the atomic manager of specs/Manager, whatever threads are at work in it: what will become of each number (is it
+-- mapped, and what does it hold), `future`, and which answer is owed to a thread that has taken its last lock, `owing`. A writer, reader or
+-- unmapper takes its last lock, n's, at W2, R1 and U2, and holds it while it works on n: so what will become of n is what that thread's
+-- operation leaves there, and nobody else changes it. Where n's lock is free it is what the map and n's block say.
 -- Definitions only. Assumes nothing.
-use mathlib.Core.Bool.{Bool, cond, _&&_, not}
+use mathlib.Core.Bool.{Bool, true, false, cond, _&&_, not}
 use mathlib.Core.List.{List, []}
 use Prim.Native.Nat.{ℕ}
 use lib.Dec.{eqb}
@@ -11,24 +11,39 @@ use Rattle.meaning.specs.declared.Thread.{Thread}
 use Rattle.meaning.specs.Store.{Store}
 use Rattle.meaning.specs.Holding.{free, named}
 use Rattle.meaning.specs.Programs.{WRITE, READ, LEVEL}
-use Rattle.meaning.specs.Manager.{empty}
+use Rattle.meaning.specs.Manager.{Manager, empty, ebmRead}
 use Rattle.meaning.specs.Schedule.{Answered, emit}
-use Rattle.meaning.specs.Demands.{kept}
+use Rattle.meaning.specs.Demands.{isMapped, kept}
 use Rattle.meaning.proofs.Invariant.{_–_, never, row, holdsN, takesN}
 
--- what an operation with word c leaves of its number's content x
-abbrev pub leaves : ℕ → ℕ → ℕ → ℕ
-leaves op c x = cond (eqb op LEVEL) x (cond (eqb op WRITE) c (cond (eqb op READ) x empty))
+-- of a number: whether it is mapped, and what it holds, which is empty where it is not
+pub record Kept : Type 0 where
+  pub mapped : Bool
+  pub content : ℕ
 
--- what number n of record r will hold, if its block holds x
-abbrev pub promised : Thread → ℕ → ℕ
+-- as a store has it, and as the manager does
+abbrev pub keeps : Store → ℕ → Kept
+keeps s k = record { mapped = isMapped s k; content = kept s k }
+
+abbrev pub asked : ℕ → Manager → Kept
+asked k m = record { mapped = m .mapped k; content = ebmRead k m }
+
+-- what an operation with word c leaves of its number, of which it found x
+abbrev pub leaves : ℕ → ℕ → Kept → Kept
+leaves op c x =
+    cond (eqb op LEVEL) x
+    (cond (eqb op WRITE) (record { mapped = true; content = c })
+    (cond (eqb op READ) x (record { mapped = false; content = empty })))
+
+-- what will become of number n of record r, if x is so now
+abbrev pub promised : Thread → Kept → Kept
 promised r x = cond (holdsN r) (leaves (r .op) (r .c) x) x
 
--- what number k will hold: the thread that holds its lock, if any, decides
-abbrev pub future : Store → ℕ → ℕ
+-- what will become of number k: the thread that holds its lock, if any, decides
+abbrev pub future : Store → ℕ → Kept
 future s k =
-    cond (free (s .locks k)) (kept s k)
-    (leaves (s .thread (named (s .locks k)) .op) (s .thread (named (s .locks k)) .c) (kept s k))
+    cond (free (s .locks k)) (keeps s k)
+    (leaves (s .thread (named (s .locks k)) .op) (s .thread (named (s .locks k)) .c) (keeps s k))
 
 -- ---- an operation of the manager's: write, read, unmap, and no levelling
 

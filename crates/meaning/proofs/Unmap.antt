@@ -1,12 +1,13 @@
 -- The lines of unmap, one after the other: each has what it needs, and shows what the table says of the thread at its next line.
 -- Assumes nothing.
 use mathlib.Core.Path.{_≡_, refl}
+use mathlib.Core.Bool.{false}
 use Prim.Native.Nat.{ℕ}
 use Rattle.meaning.specs.Store.{Store}
 use Rattle.meaning.specs.Holding.{none, free}
 use Rattle.meaning.specs.Programs.{UNMAP}
-use Rattle.meaning.specs.Demands.{kept}
 use Rattle.meaning.proofs.Words.{either-way, free-none, naming-not-none, upd-same}
+use Rattle.meaning.proofs.ManagerView.{keeps}
 use Rattle.meaning.proofs.Sharing.{owner-free, mapped-block-free, numbers-blocks}
 use Rattle.meaning.proofs.Lines.{for-H, for-N, Line, From, _▸_, n-held, p-held, mapped-freed, freed-agrees, unmapped-agrees, unmapped-mapped, looked-up, facts-idle, keeping}
 
@@ -64,7 +65,7 @@ module _ (s : Store) (t : ℕ) where
   U10 : Line s t UNMAP 10
   U10 n c p q h H =
       let lock = n-held H refl in
-      let left : kept s n ≡ 0 = rw (H .facts .unmapped) in
+      let left : keeps s n ≡ record { mapped = false; content = 0 } = rw (H .facts .unmapped) in
       rw lock (search (keeping, H .holds .locks, H .holds .own))
 
   U11 : Line s t UNMAP 11

@@ -15,6 +15,10 @@ use Rattle.meaning.specs.Schedule.{Operation, operation, Answered, emit,
 
 -- ---- what a store keeps
 
+-- number k is mapped: "Map: N words, 0 unmapped"
+abbrev pub isMapped : Store → ℕ → Bool
+isMapped s k = not (free (s .map k))
+
 -- what number k's block holds: 0, the empty content, where it is unmapped
 abbrev pub kept : Store → ℕ → ℕ
 kept s k = cond (free (s .map k)) empty (s .content (named (s .map k)))

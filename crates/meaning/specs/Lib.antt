@@ -11,3 +11,4 @@ pub mod Call
 pub mod Manager
 pub mod Schedule
 pub mod Demands
+pub mod Guarding

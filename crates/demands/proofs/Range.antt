@@ -34,6 +34,7 @@ use Rattle.meaning.specs.Schedule.{Words}
 use Rattle.meaning.proofs.Words.{clash, and-left, and-right, within-true, either-way, upd-each, named-below}
 use Rattle.meaning.proofs.Invariant.{Changes, Puts, Stands}
 use Rattle.meaning.proofs.Keeping.{everyLine, everywhere}
+use Rattle.meaning.proofs.Called.{by-begin, by-step}
 use Rattle.meaning.proofs.Lines.{_▸_, from-at}
 use Rattle.meaning.proofs.Blocks.{finds, lacks, Best, best-finds}
 use Rattle.store.specs.Area.{word}
@@ -351,17 +352,5 @@ module _ (s : Store) (R : Ranged s) (t : ℕ) (below : t < s .threads) where
 
 pub calling-ranged : (s : Store) → Ranged s → (e : Call) → Words e → Leaves (calling s e)
 calling-ranged s R (begin t op n c) w =
-    either-way (ltb t (s .threads))
-    (λ b. rw b (either-way (isIdle (s .thread t))
-    (λ x. rw x (either-way (within WRITE LEVEL op)
-    (λ y. rw y (either-way (eqb op LEVEL || ltb n (s .numbers))
-    (λ z. rw z (begin-ranged s R t (ltb-true t (s .threads) b) op n c (w .3) y z))
-    (λ z. rw z tt)))
-    (λ y. rw y tt)))
-    (λ x. rw x tt)))
-    (λ b. rw b tt)
-calling-ranged s R (step t) w =
-    either-way (ltb t (s .threads))
-    (λ b. rw b (either-way (isIdle (s .thread t)) (λ x. rw x tt)
-    (λ x. rw x (step-ranged s R t (ltb-true t (s .threads) b) x))))
-    (λ b. rw b tt)
+    by-begin Leaves s t op n c (λ _ _. tt) (λ b _ y z. begin-ranged s R t b op n c (w .3) y z)
+calling-ranged s R (step t) w = by-step Leaves s t (λ _ _. tt) (λ b x. step-ranged s R t b x)

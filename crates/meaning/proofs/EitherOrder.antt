@@ -7,8 +7,8 @@ use mathlib.Core.Path.{_≡_, refl, sym, ap, _∙_, subst, fun-ext}
 use mathlib.Core.Bool.{Bool, true, false, _&&_, _||_, or-true}
 use Prim.Native.Nat.{ℕ, _<_}
 use native.Mathlib.Omega.{arith}
-use lib.Dec.{eqb, ltb, leb}
-use borrow.Author.Tests.{eqb-true, eq-eqb, ne-eqb, ltb-true, lt-ltb}
+use lib.Dec.{eqb, leb}
+use borrow.Author.Tests.{eqb-true, eq-eqb, ne-eqb, lt-ltb}
 use Rattle.meaning.specs.declared.Act.{Act}
 use Rattle.meaning.specs.declared.Act.the-variants.{Nothing, TakeH, ReleaseH, FinishH, TakeN, ReleaseN, FinishN, OwnHeaders, LetGoHeaders, Own, LetGo, GoIfMapped, GoIfUnmapped, EmptyIfUnmapped, GoIfFree, PickFree, Choose, ReadHeader, WriteHeaderN, WriteHeaderH, FreeHeader, EmptyContent, ReadContent, WriteContent, MapTo, Unmap}
 use Rattle.meaning.specs.declared.Thread.{Thread}
@@ -29,6 +29,7 @@ use Rattle.meaning.specs.Programs.{actAt}
 use Rattle.meaning.specs.Step.{block, setC, nothing, next, need, touches, choosing, perform, verdict, become, put, apply}
 use Rattle.meaning.specs.Call.{Reply, step, callStore, told, reply, isIdle}
 use Rattle.meaning.proofs.Words.{either-way, by-held, clash, and-left, and-right, or-way, by-other, held-once, held-not-free, upd-same, upd-other, upd-each}
+use Rattle.meaning.proofs.Called.{by-step}
 use Rattle.meaning.proofs.Invariant.{takesH, takesN, takesLock, holdsH, ownsHeaders, ownsP, Passes, takes, gives, Changes, Puts, Guards, GuardsMap, GuardsHeader, GuardsContent, GuardsWear, Inv}
 use Rattle.meaning.proofs.Keeping.{reads-map, everyLine, everywhere, standing, p-owned, Moves, moves-inv, word-kept, entry-kept, map-kept, header-kept, wear-kept, content-kept}
 use Rattle.meaning.proofs.Lines.{Fine}
@@ -328,10 +329,8 @@ module _ (s : Store) (t : ℕ) where
 
   pub can-going : CanStep s t → Going s t
   can-going c =
-      either-way (ltb t (s .threads))
-      (λ b. either-way (isIdle (s .thread t)) (λ x. clash (rw (b, x) at c) refl)
-      (λ x. told-going (ltb-true t (s .threads) b) x (verdict s t) refl (rw (b, x) at c)))
-      (λ b. clash (rw b at c) refl)
+      by-step (λ o. leb (reply (λ s′. s′) s o .number) FINISHED ≡ true → Going s t) s t (λ number x y. clash y x)
+      (λ b x y. told-going b x (verdict s t) refl y) c
 
   goes-reply : (v : Verdict) (n a : ℕ) (r : Thread) (e : Effect) → Goes v n a r e →
       reply (λ s′. s′) s (told s t v) ≡ record { number = n; value = a; after = apply s t r e }

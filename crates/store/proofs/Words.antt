@@ -1,4 +1,5 @@
--- Words of bytes: a word of what was put, the word of an area's bytes, the bytes of an area's words. Assumes nothing.
+-- Words of bytes: a word of what was put, the word of an area's bytes, the bytes of an area's words; words put one after the other.
+-- Assumes nothing.
 use mathlib.Core.Path.{_≡_, refl, _∙_, sym, ap, fun-ext}
 use mathlib.Core.Bool.{Bool, true, false, cond}
 use mathlib.Core.List.{List, [], _∷_}
@@ -11,7 +12,9 @@ use lib.Dec.{eqb}
 use lib.ListN.{getD, set, length, drop, length-set, drop-of-length-le}
 use lib.Seq.{getD-set-same, getD-set-other, set-out, drop-cons}
 use borrow.Author.Tests.{eqb-true, eqb-false}
+use Rattle.meaning.specs.Limits.{mostWord}
 use Rattle.meaning.specs.Table.{upd}
+use Rattle.meaning.proofs.Words.{upd-same, upd-other}
 use Rattle.store.specs.Area.{Bytes, word, bytes, putWord}
 use Rattle.store.specs.Live.{Within}
 
@@ -221,3 +224,51 @@ bytes-put a k v h =
 
     a₃ : List ℕ
     a₃ = set a₂ (4 * k + 2) (v / 65536 % 256)
+
+-- ---- several words put, one after the other
+
+-- every element of a list is a word
+abbrev pub OfWords : List ℕ → Type 0
+OfWords [] = Unit {0}
+OfWords (v ∷ l) = (v ≤ mostWord) × OfWords l
+
+-- the area with its words i + e, i + e + 1, .. from a list; and a table likewise
+abbrev pub putFrom : List ℕ → ℕ → ℕ → List ℕ → List ℕ
+putFrom a i e [] = a
+putFrom a i e (v ∷ vs) = putFrom (putWord a (i + e) v) i (suc e) vs
+
+abbrev pub updFrom : (ℕ → ℕ) → ℕ → ℕ → List ℕ → ℕ → ℕ
+updFrom at i e [] = at
+updFrom at i e (v ∷ vs) = updFrom (upd at (i + e) v) i (suc e) vs
+
+pub length-putFrom : (a : List ℕ) (i e : ℕ) (vs : List ℕ) → length (putFrom a i e vs) ≡ length a
+length-putFrom a i e [] = refl
+length-putFrom a i e (v ∷ vs) = length-putFrom (putWord a (i + e) v) i (suc e) vs ∙ length-putWord a (i + e) v
+
+pub bytes-putFrom : (a : List ℕ) (i e : ℕ) (vs : List ℕ) → Bytes a → Bytes (putFrom a i e vs)
+bytes-putFrom a i e [] h = h
+bytes-putFrom a i e (v ∷ vs) h = bytes-putFrom (putWord a (i + e) v) i (suc e) vs (bytes-put a (i + e) v h)
+
+pub word-putFrom :
+    (a : List ℕ) (i e : ℕ) (vs : List ℕ) → 4 * (i + e + length vs) ≤ length a → OfWords vs →
+    word (putFrom a i e vs) ≡ updFrom (word a) i e vs
+word-putFrom a i e [] fit all = refl
+word-putFrom a i e (v ∷ vs) fit all =
+    word-putFrom (putWord a (i + e) v) i (suc e) vs (omega (arith, length-putWord a (i + e) v)) (all .1)
+    ∙ ap (λ f. updFrom f i (suc e) vs) (word-put a (i + e) v (omega arith) (omega arith))
+
+pub updFrom-other :
+    (at : ℕ → ℕ) (i e : ℕ) (vs : List ℕ) (j : ℕ) → (i + e ≤ j → j < i + e + length vs → ⊥) → updFrom at i e vs j ≡ at j
+updFrom-other at i e [] j h = refl
+updFrom-other at i e (v ∷ vs) j h =
+    updFrom-other (upd at (i + e) v) i (suc e) vs j (λ l u. h (omega arith) (omega arith))
+    ∙ upd-other at (i + e) j v (λ q. h (omega arith) (omega arith))
+
+pub updFrom-at : (at : ℕ → ℕ) (i e : ℕ) (vs : List ℕ) (k : ℕ) → k < length vs → updFrom at i e vs (i + (e + k)) ≡ getD vs k 0
+updFrom-at at i e [] k h = absurd (omega arith)
+updFrom-at at i e (v ∷ vs) zero h =
+    rw (add-zero e)
+    (updFrom-other (upd at (i + e) v) i (suc e) vs (i + e) (λ l u. omega arith) ∙ upd-same at (i + e) v)
+updFrom-at at i e (v ∷ vs) (suc k) h =
+    let q : i + (e + suc k) ≡ i + (suc e + k) = omega arith in
+    rw q (updFrom-at (upd at (i + e) v) i (suc e) vs k (omega arith))

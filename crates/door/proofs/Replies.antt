@@ -4,7 +4,7 @@ use mathlib.Core.Path.{_≡_, refl, _∙_, sym, ap, subst}
 use mathlib.Core.Bool.{Bool, true, false, not, _&&_, _||_}
 use mathlib.Core.List.{List}
 use mathlib.Core.Logic.{inl, inr}
-use Prim.Native.Nat.{ℕ, zero, suc, _+_, _*_, _<_, _≤_}
+use Prim.Native.Nat.{ℕ, suc, _+_, _*_, _<_, _≤_}
 use native.Mathlib.Omega.{arith}
 use lib.Dec.{eqb, ltb, leb, leb·suc-suc}
 use lib.ListN.{length}
@@ -16,13 +16,14 @@ use Rattle.meaning.specs.declared.Verdict.the-variants.{Go, Done}
 use Rattle.meaning.specs.Numbers.{WENT, SHAPE, THREAD, BUSY, IDLE, LOGICAL, OPERATION, LIMITS, packed}
 use Rattle.meaning.specs.Limits.{within, inLimits}
 use Rattle.meaning.specs.Store.{Store, fresh}
-use Rattle.meaning.specs.Programs.{WRITE, LEVEL, actAt, lastLine}
+use Rattle.meaning.specs.Programs.{WRITE, LEVEL, actAt}
 use Rattle.meaning.specs.Step.{perform, apply, nothing}
 use Rattle.meaning.specs.Call.{Reply, Entry, begin, step, reply, told, begun, isIdle}
 use Rattle.store.specs.Layout.{tAt, nAt, pAt, threadsAt, threadWords, size}
 use Rattle.store.specs.Area.{Bytes, word, threadFrom, encode, decode, wellFormed}
 use Rattle.store.specs.Live.{Live, Within}
 use Rattle.store.specs.Calls.{formatArea, callArea}
+use Rattle.store.proofs.Lines.{few-lines}
 use Rattle.store.proofs.Sound.{Sound, Working, SoundThread, wellFormed-sound}
 use Rattle.store.proofs.Codec.{encode-decode}
 use Rattle.machine.specs.declared.Sizes.{Sizes}
@@ -114,14 +115,6 @@ logical-tested op n numbers e =
         shifted : (x y : ℕ) → ltb y (suc x) ≡ leb y x
         shifted x y = leb·suc-suc y x
 
-lastLine-most : (op : ℕ) → lastLine op ≤ 18
-lastLine-most zero = omega arith
-lastLine-most (suc zero) = omega arith
-lastLine-most (suc (suc zero)) = omega arith
-lastLine-most (suc (suc (suc zero))) = omega arith
-lastLine-most (suc (suc (suc (suc zero)))) = omega arith
-lastLine-most (suc (suc (suc (suc (suc k))))) = omega arith
-
 -- ---- the calls, a refusal after the other
 
 pub call-shape : (a : List ℕ) (e : Entry) → wellFormed a ≡ false → callArea a e ≡ refusal SHAPE a
@@ -192,7 +185,7 @@ module _ {a : List ℕ} {k : ℕ} {z : Sizes} (o : Opened a k z) {r : Thread} (i
           o .live,
           record {
             thread = omega (arith, low, l .few);
-            line = omega (arith, w .line, lastLine-most (r .op));
+            line = omega (arith, w .line, few-lines (r .op) (w .operation));
             n = omega (arith, w .n-low, l .few);
             p = omega (arith, w .p-low, l .few);
             q = omega (arith, w .q-low, l .few);

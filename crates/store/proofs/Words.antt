@@ -2,7 +2,7 @@
 -- Assumes nothing.
 use mathlib.Core.Path.{_≡_, refl, _∙_, sym, ap, fun-ext}
 use mathlib.Core.Bool.{Bool, true, false, cond}
-use mathlib.Core.List.{List, [], _∷_}
+use mathlib.Core.List.{List, [], _∷_, _++_}
 use mathlib.Core.Logic.{_⊎_, inl, inr}
 use Prim.Native.Nat.{ℕ, zero, suc, _+_, _*_, _/_, _%_, _<_, _≤_}
 use native.Mathlib.Nat.{add-zero, div-div-eq-div-mul}
@@ -225,6 +225,17 @@ bytes-put a k v h =
     a₃ : List ℕ
     a₃ = set a₂ (4 * k + 2) (v / 65536 % 256)
 
+pub bytes-bytes : (ws : List ℕ) → Bytes (bytes ws)
+bytes-bytes [] i = omega arith
+bytes-bytes (v ∷ vs) zero = omega arith
+bytes-bytes (v ∷ vs) (suc zero) = omega arith
+bytes-bytes (v ∷ vs) (suc (suc zero)) = omega arith
+bytes-bytes (v ∷ vs) (suc (suc (suc zero))) = omega arith
+bytes-bytes (v ∷ vs) (suc (suc (suc (suc i)))) = bytes-bytes vs i
+
+pub word-low : (a : List ℕ) → Bytes a → (k : ℕ) → word a k ≤ mostWord
+word-low a h k = omega (arith, h (4 * k), h (4 * k + 1), h (4 * k + 2), h (4 * k + 3))
+
 -- ---- several words put, one after the other
 
 -- every element of a list is a word
@@ -272,3 +283,12 @@ updFrom-at at i e (v ∷ vs) zero h =
 updFrom-at at i e (v ∷ vs) (suc k) h =
     let q : i + (e + suc k) ≡ i + (suc e + k) = omega arith in
     rw q (updFrom-at (upd at (i + e) v) i (suc e) vs k (omega arith))
+
+pub low-at : (l : List ℕ) → OfWords l → (k : ℕ) → getD l k 0 < 4294967296
+low-at [] all k = omega arith
+low-at (v ∷ l) all zero = omega arith
+low-at (v ∷ l) all (suc k) = low-at l (all .1) k
+
+pub low-append : (l m : List ℕ) → OfWords l → OfWords m → OfWords (l ++ m)
+low-append [] m x y = y
+low-append (v ∷ l) m x y = (x .0, low-append l m (x .1) y)

@@ -1,15 +1,14 @@
 -- An area of zeros with the four sizes put is the area of a fresh store. Assumes nothing.
 use mathlib.Core.Path.{_≡_, refl, _∙_, sym, ap, fun-ext}
-use mathlib.Core.Bool.{Bool, true, false, cond}
 use mathlib.Core.List.{List, [], _∷_}
 use Prim.Native.Nat.{ℕ, zero, suc, _+_, _*_, _<_}
 use native.Mathlib.Omega.{arith}
-use lib.Dec.{ltb}
 use lib.ListN.{getD, length, replicate, length-replicate}
 use Rattle.meaning.specs.Table.{below}
 use Rattle.meaning.specs.Store.{idle, fresh}
 use Rattle.store.specs.Layout.{tAt, nAt, pAt, dAt, threadsAt, threadWords, mapAt, locksAt, blocksAt, blockWords, size}
 use Rattle.store.specs.Area.{Bytes, word, putWord, threadFrom, column, storeOf, encode, decode}
+use Rattle.store.proofs.Decode.{below-is}
 use Rattle.store.proofs.Words.{putFrom, updFrom, length-putFrom, bytes-putFrom, word-putFrom, updFrom-other}
 use Rattle.store.proofs.Sound.{Sizes}
 use Rattle.store.proofs.Codec.{encode-decode}
@@ -29,11 +28,7 @@ zero-bytes m i = rw (zeros-at m i) (omega arith)
 -- ---- the words of the sizes and of nothing else
 
 nothing-below : {A : Type 0} (z : A) (count : ℕ) (f : ℕ → A) → ((k : ℕ) → f k ≡ z) → below z count f ≡ (λ _. z)
-nothing-below {A} z count f h = fun-ext λ k. by-size (ltb k count) (h k)
-  where
-    by-size : {x : A} (b : Bool) → x ≡ z → cond b x z ≡ z
-    by-size true e = e
-    by-size false e = refl
+nothing-below z count f h = below-is z count f (λ _. z) (λ k _. h k) (λ k _. refl)
 
 module _ (t n p d : ℕ) where
   abbrev sizes : List ℕ

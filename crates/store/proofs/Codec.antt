@@ -1,7 +1,7 @@
 -- Decoding and encoding undo one another: an area of bytes that fits is the area of the store that it holds, and a store in range is
 -- the store that its area holds. Assumes nothing.
 use mathlib.Core.Path.{_≡_, refl, _∙_, sym, ap, ap₂, fun-ext}
-use mathlib.Core.Bool.{Bool, true, false, cond}
+use mathlib.Core.Bool.{true}
 use mathlib.Core.List.{List, [], _∷_, _++_}
 use Prim.Native.Nat.{ℕ, zero, suc, _+_, _*_, _<_, _≤_}
 use native.Mathlib.Nat.{add-zero, zero-add, mul-zero, mul-suc, one-mul}
@@ -10,11 +10,11 @@ use native.Mathlib.Omega.{arith}
 use lib.Dec.{ltb}
 use lib.ListN.{getD, length, length-append, List·getD-append}
 use lib.Seq.{getD-append-add}
-use borrow.Author.Tests.{lt-ltb, ltb-true, ltb-false}
-use Rattle.meaning.specs.Table.{below}
+use borrow.Author.Tests.{lt-ltb}
 use Rattle.meaning.specs.Store.{Store, idle}
 use Rattle.store.specs.Layout.{tAt, nAt, pAt, dAt, lockAt, ownerAt, threadsAt, threadWords, mapAt, locksAt, blocksAt, blockWords, areaWords, size}
 use Rattle.store.specs.Area.{Bytes, word, bytes, rows, threadRow, blockRow, words, encode, threadFrom, column, storeOf, decode}
+use Rattle.store.proofs.Decode.{below-is}
 use Rattle.store.proofs.Words.{span, bytes-span, word-bytes, length-bytes}
 use Rattle.store.proofs.Sound.{Fitted}
 
@@ -107,14 +107,6 @@ pub record InRange (s : Store) : Type 0 where
   pub content : (k : ℕ) → s .blocks ≤ k → 0 ≡ s .content k
   pub wear : (k : ℕ) → s .blocks ≤ k → 0 ≡ s .wear k
   pub own : (k : ℕ) → s .blocks ≤ k → 0 ≡ s .own k
-
--- a table is another below the size, and so is the rest
-below-is : {A : Type 0} (z : A) (n : ℕ) (f g : ℕ → A) → ((k : ℕ) → k < n → f k ≡ g k) → ((k : ℕ) → n ≤ k → z ≡ g k) → below z n f ≡ g
-below-is z n f g h o = fun-ext λ k. by-size k (ltb k n) refl
-  where
-    by-size : (k : ℕ) (b : Bool) → ltb k n ≡ b → cond b (f k) z ≡ g k
-    by-size k true e = h k (ltb-true k n e)
-    by-size k false e = o k (ltb-false k n e)
 
 module _ (width : ℕ) (row : ℕ → List ℕ) (even : (k : ℕ) → length (row k) ≡ width) where
   length-rows : (count k : ℕ) → length (rows k count row) ≡ width * count

@@ -1,14 +1,14 @@
 -- What a word that is put does to the store that an area holds: it changes the table that it stands in, at its entry, and no other.
 -- The tables are numbered, so that one law, `storeOf-mixed`, says of each that the others are kept. Assumes nothing.
-use mathlib.Core.Path.{_≡_, refl, _∙_, sym, ap, subst, fun-ext}
+use mathlib.Core.Path.{_≡_, refl, _∙_, sym, ap, subst}
 use mathlib.Core.Bool.{Bool, true, false, cond}
 use mathlib.Core.List.{List, [], _∷_}
 use Prim.Native.Nat.{ℕ, suc, _+_, _*_, _<_, _≤_}
 use native.Mathlib.Nat.{add-zero}
 use native.Mathlib.Omega.{arith}
-use lib.Dec.{eqb, ltb}
+use lib.Dec.{eqb}
 use lib.ListN.{length}
-use borrow.Author.Tests.{lt-ltb, ltb-true, eqb-true, eqb-false}
+use borrow.Author.Tests.{lt-ltb, eqb-true, eqb-false, ne-eqb, le-ltb}
 use Rattle.meaning.specs.declared.Thread.{Thread}
 use Rattle.meaning.specs.declared.Effect.{Effect}
 use Rattle.meaning.specs.declared.Word.{Word}
@@ -19,12 +19,12 @@ use Rattle.meaning.specs.Table.{upd, below}
 use Rattle.meaning.specs.Store.{Store, idle}
 use Rattle.meaning.specs.Step.{put, apply, nothing, onLock, onOwner}
 use Rattle.meaning.specs.Limits.{mostWord}
-use Rattle.meaning.proofs.Words.{upd-same, upd-other}
+use Rattle.meaning.proofs.Words.{upd-same, upd-other, either-way}
 use Rattle.store.specs.Layout.{tAt, nAt, pAt, dAt, lockAt, ownerAt, threadsAt, threadWords, mapAt, locksAt, blocksAt, blockWords, size}
 use Rattle.store.specs.Area.{word, putWord, putThread, putBecome, putEntry, threadRow, threadFrom, column, storeOf, decode}
 use Rattle.store.specs.Live.{Live, Within, EntryWithin, BecomeFits, EntryFits, EntryBelow, Small, made}
 use Rattle.store.proofs.Words.{word-put, length-putWord, OfWords, putFrom, updFrom, word-putFrom, updFrom-other, updFrom-at}
-use Rattle.store.proofs.Decode.{decode-live}
+use Rattle.store.proofs.Decode.{decode-live, below-is}
 
 -- ---- tables that are kept
 
@@ -94,11 +94,8 @@ kept false u f = f u
 
 -- two tables that are made of the same entries below their size
 below-cong : {A : Type 0} (z : A) (n : ℕ) (f g : ℕ → A) → ((k : ℕ) → k < n → f k ≡ g k) → below z n f ≡ below z n g
-below-cong z n f g h = fun-ext λ k. by-size k (ltb k n) refl
-  where
-    by-size : (k : ℕ) (b : Bool) → ltb k n ≡ b → cond b (f k) z ≡ cond b (g k) z
-    by-size k true e = h k (ltb-true k n e)
-    by-size k false e = refl
+below-cong z n f g h =
+    below-is z n f (below z n g) (λ k l. rw (lt-ltb k n l) (h k l)) (λ k l. rw (le-ltb k n l))
 
 module _ (new old : ℕ → ℕ) (lo hi : ℕ) (same : (i : ℕ) → Clear lo hi i → new i ≡ old i) where
   column-kept : (from stride count : ℕ) → ((k : ℕ) → k < count → Clear lo hi (from + stride * k)) → column new from stride count ≡ column old from stride count
@@ -145,17 +142,10 @@ module _ (new old : ℕ → ℕ) (lo hi : ℕ) (same : (i : ℕ) → Clear lo hi
 below-put :
     {A : Type 0} (z : A) (n : ℕ) (f g : ℕ → A) (k : ℕ) (v : A) → k < n → g k ≡ v →
     ((j : ℕ) → j < n → (k ≡ j → ⊥) → g j ≡ f j) → below z n g ≡ upd (below z n f) k v
-below-put z n f g k v l e o = fun-ext λ j. by-entry j (eqb k j) refl
-  where
-    by-entry : (j : ℕ) (b : Bool) → eqb k j ≡ b → below z n g j ≡ cond b v (below z n f j)
-    by-entry j true q =
-        let i : k ≡ j = eqb-true k j q in
-        rw (← i, lt-ltb k n l) e
-    by-entry j false q = by-size (ltb j n) refl
-      where
-        by-size : (b : Bool) → ltb j n ≡ b → cond b (g j) z ≡ cond b (f j) z
-        by-size true s = o j (ltb-true j n s) (eqb-false k j q)
-        by-size false s = refl
+below-put z n f g k v l e o =
+    below-is z n g (upd (below z n f) k v)
+    (λ j m. either-way (eqb k j) (λ q. rw q (ap g (sym (eqb-true k j q)) ∙ e)) (λ q. rw (q, lt-ltb j n m) (o j m (eqb-false k j q))))
+    (λ j m. rw (ne-eqb k j (λ q. omega arith), le-ltb j n m))
 
 column-put :
     (at : ℕ → ℕ) (from stride count k v : ℕ) → k < count →

@@ -1,9 +1,7 @@
 -- Words of bytes: a word of what was put, the word of an area's bytes, the bytes of an area's words; words put one after the other.
 -- Assumes nothing.
 use mathlib.Core.Path.{_≡_, refl, _∙_, sym, ap, fun-ext}
-use mathlib.Core.Bool.{Bool, true, false, cond}
 use mathlib.Core.List.{List, [], _∷_, _++_}
-use mathlib.Core.Logic.{_⊎_, inl, inr}
 use Prim.Native.Nat.{ℕ, zero, suc, _+_, _*_, _/_, _%_, _<_, _≤_}
 use native.Mathlib.Nat.{add-zero, div-div-eq-div-mul}
 use native.Mathlib.Decide.{decLt}
@@ -14,7 +12,7 @@ use lib.Seq.{getD-set-same, getD-set-other, set-out, drop-cons}
 use borrow.Author.Tests.{eqb-true, eqb-false}
 use Rattle.meaning.specs.Limits.{mostWord}
 use Rattle.meaning.specs.Table.{upd}
-use Rattle.meaning.proofs.Words.{upd-same, upd-other}
+use Rattle.meaning.proofs.Words.{either-way, upd-same, upd-other}
 use Rattle.store.specs.Area.{Bytes, word, bytes, putWord}
 use Rattle.store.specs.Live.{Within}
 
@@ -62,17 +60,12 @@ abbrev set-four : List ℕ → ℕ → ℕ → ℕ → ℕ → ℕ → List ℕ
 set-four l i a b c d = set (set (set (set l i a) (i + 1) b) (i + 2) c) (i + 3) d
 
 module _ (l : List ℕ) (i a b c d : ℕ) where
-  getD-four-other : (j : ℕ) → (j < i) ⊎ (i + 4 ≤ j) → getD (set-four l i a b c d) j 0 ≡ getD l j 0
-  getD-four-other j (inl h) =
-      getD-set-other (set (set (set l i a) (i + 1) b) (i + 2) c) (i + 3) j d 0 (λ e. omega arith)
-      ∙ getD-set-other (set (set l i a) (i + 1) b) (i + 2) j c 0 (λ e. omega arith)
-      ∙ getD-set-other (set l i a) (i + 1) j b 0 (λ e. omega arith)
-      ∙ getD-set-other l i j a 0 (λ e. omega arith)
-  getD-four-other j (inr h) =
-      getD-set-other (set (set (set l i a) (i + 1) b) (i + 2) c) (i + 3) j d 0 (λ e. omega arith)
-      ∙ getD-set-other (set (set l i a) (i + 1) b) (i + 2) j c 0 (λ e. omega arith)
-      ∙ getD-set-other (set l i a) (i + 1) j b 0 (λ e. omega arith)
-      ∙ getD-set-other l i j a 0 (λ e. omega arith)
+  getD-four-other : (j : ℕ) → (i ≤ j → j < i + 4 → ⊥) → getD (set-four l i a b c d) j 0 ≡ getD l j 0
+  getD-four-other j h =
+      getD-set-other (set (set (set l i a) (i + 1) b) (i + 2) c) (i + 3) j d 0 (λ e. h (omega arith) (omega arith))
+      ∙ getD-set-other (set (set l i a) (i + 1) b) (i + 2) j c 0 (λ e. h (omega arith) (omega arith))
+      ∙ getD-set-other (set l i a) (i + 1) j b 0 (λ e. h (omega arith) (omega arith))
+      ∙ getD-set-other l i j a 0 (λ e. h (omega arith) (omega arith))
 
   module _ (h : i + 4 ≤ length l) where
     getD-four-3 : getD (set-four l i a b c d) (i + 3) 0 ≡ d
@@ -110,24 +103,17 @@ module _ (a : List ℕ) (k v : ℕ) where
       λ i.
       joined (rw add-zero at (kept 0 (omega arith)) i) (kept 1 (omega arith) i) (kept 2 (omega arith) i) (kept 3 (omega arith) i)
     where
-      apart : (e : ℕ) → e < 4 → (4 * j + e < 4 * k) ⊎ (4 * k + 4 ≤ 4 * j + e)
-      apart e l = by-order (decLt j k)
-        where
-          by-order : Dec (j < k) → (4 * j + e < 4 * k) ⊎ (4 * k + 4 ≤ 4 * j + e)
-          by-order (yes q) = inl (omega arith)
-          by-order (no q) = inr (omega arith)
-
       kept : (e : ℕ) → e < 4 → getD (putWord a k v) (4 * j + e) 0 ≡ getD a (4 * j + e) 0
       kept e l =
-          getD-four-other a (4 * k) (v % 256) (v / 256 % 256) (v / 65536 % 256) (v / 16777216 % 256) (4 * j + e) (apart e l)
+          getD-four-other a (4 * k) (v % 256) (v / 256 % 256) (v / 65536 % 256) (v / 16777216 % 256) (4 * j + e)
+          (λ x y. h (omega arith))
 
 -- the words of an area with a word put, as a table
 pub word-put : (a : List ℕ) (k v : ℕ) → Within a k → v < 4294967296 → word (putWord a k v) ≡ upd (word a) k v
-word-put a k v w h = fun-ext λ j. by-place j (eqb k j) refl
-  where
-    by-place : (j : ℕ) (b : Bool) → eqb k j ≡ b → word (putWord a k v) j ≡ cond b v (word a j)
-    by-place j true e = rw (← eqb-true k j e) (word-put-same a k v w h)
-    by-place j false e = word-put-other a k v j (eqb-false k j e)
+word-put a k v w h =
+    fun-ext λ j.
+    either-way (eqb k j) (λ e. rw e (ap (word (putWord a k v)) (sym (eqb-true k j e)) ∙ word-put-same a k v w h))
+    (λ e. rw e (word-put-other a k v j (eqb-false k j e)))
 
 -- ---- the bytes of words
 
@@ -199,15 +185,13 @@ bytes-span a h (suc count) k l =
 -- ---- bytes stay bytes
 
 getD-set-byte : (a : List ℕ) (i v : ℕ) → Bytes a → v < 256 → Bytes (set a i v)
-getD-set-byte a i v h l j = by-place (eqb j i) refl
+getD-set-byte a i v h l j =
+    either-way (eqb j i) (λ e. rw (eqb-true j i e) (by-length (decLt i (length a))))
+    (λ e. rw (getD-set-other a i j v 0 (eqb-false j i e)) (h j))
   where
-    by-place : (b : Bool) → eqb j i ≡ b → getD (set a i v) j 0 < 256
-    by-place true e = rw (eqb-true j i e) (by-length (decLt i (length a)))
-      where
-        by-length : Dec (i < length a) → getD (set a i v) i 0 < 256
-        by-length (yes q) = rw (getD-set-same a i v 0 q) l
-        by-length (no q) = rw (set-out a i v (omega arith)) (h i)
-    by-place false e = rw (getD-set-other a i j v 0 (eqb-false j i e)) (h j)
+    by-length : Dec (i < length a) → getD (set a i v) i 0 < 256
+    by-length (yes q) = rw (getD-set-same a i v 0 q) l
+    by-length (no q) = rw (set-out a i v (omega arith)) (h i)
 
 pub bytes-put : (a : List ℕ) (k v : ℕ) → Bytes a → Bytes (putWord a k v)
 bytes-put a k v h =

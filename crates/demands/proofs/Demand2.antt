@@ -29,9 +29,10 @@ use Rattle.meaning.proofs.ManagerAnswers.{manager-answers, manager-keeps, manag
 use Rattle.meaning.proofs.Linearizable.{linearizable, reads-give, read-finished, one-block-each}
 use Rattle.store.specs.Area.{decode}
 use Rattle.store.specs.Calls.{callArea, Formatted, Grown}
+use Rattle.store.proofs.Range.{formatted-good, formatted-fresh}
 use Rattle.demands.specs.Demand1.{rests}
 use Rattle.demands.specs.Schedule.{AllWords}
-use Rattle.demands.proofs.Bridge.{order-decoded, begunBy-decoded, finishedBy-decoded, formatted-good, formatted-fresh, grown-inv}
+use Rattle.demands.proofs.Bridge.{order-decoded, begunBy-decoded, finishedBy-decoded, grown-inv}
 use Rattle.demands.proofs.History.{areas-follow, words-first}
 
 module _ (a : List ℕ) (f : Formatted a) (w : List Entry) (x : AllWords w) where

@@ -19,9 +19,10 @@ use Rattle.meaning.proofs.OneAtATime.{one-at-a-time, answers-so-far}
 use Rattle.meaning.proofs.EachOnce.{each-once}
 use Rattle.store.specs.Area.{decode}
 use Rattle.store.specs.Calls.{callArea, Formatted}
+use Rattle.store.proofs.Range.{Good, decode-injective, formatted-good, formatted-fresh}
 use Rattle.demands.specs.Demand1.{rests}
 use Rattle.demands.specs.Schedule.{AllWords}
-use Rattle.demands.proofs.Bridge.{Good, decode-injective, run-good, run-decoded, order-decoded, finishedBy-decoded, formatted-good, formatted-fresh}
+use Rattle.demands.proofs.Bridge.{run-good, run-decoded, order-decoded, finishedBy-decoded}
 use Rattle.demands.proofs.History.{areas-follow, serial-words}
 
 module _ (a : List ℕ) (f : Formatted a) (w : List Entry) (x : AllWords w) where

@@ -23,9 +23,10 @@ use Rattle.meaning.proofs.Demand1.{CanStep as CanStepStore}
 use Rattle.meaning.proofs.EitherOrder.{sameTake, either-order}
 use Rattle.store.specs.Area.{decode}
 use Rattle.store.specs.Calls.{stepArea, Grown}
+use Rattle.store.proofs.Range.{Good, decode-injective, good-ranged}
 use Rattle.demands.specs.Demand1.{CanStep}
 use Rattle.demands.specs.EitherOrder.{SameLock, both-H, both-N, EitherOrder}
-use Rattle.demands.proofs.Bridge.{Good, Matches, after-call, decode-injective, good-ranged, grown-good, grown-inv}
+use Rattle.demands.proofs.Bridge.{Matches, after-call, grown-good, grown-inv}
 use Rattle.demands.proofs.Demand1.{refusals, number-decoded}
 
 -- ---- the rows of the invariant's table are these acts

@@ -21,9 +21,9 @@ use Rattle.meaning.proofs.Words.{either-way}
 use Rattle.store.specs.Area.{decode}
 use Rattle.store.specs.Calls.{callArea, Formatted}
 use Rattle.store.proofs.Sound.{SoundThread}
+use Rattle.store.proofs.Range.{Ranged, Good, good-ranged, formatted-good, formatted-fresh}
 use Rattle.demands.specs.Schedule.{AllWords, History, history}
-use Rattle.demands.proofs.Range.{Ranged}
-use Rattle.demands.proofs.Bridge.{Good, good-ranged, after-call, run-decoded, replies-decoded, order-decoded, begunBy-decoded, finishedBy-decoded, formatted-good, formatted-fresh}
+use Rattle.demands.proofs.Bridge.{after-call, run-decoded, replies-decoded, order-decoded, begunBy-decoded, finishedBy-decoded}
 
 pub history-decoded : (a : List ℕ) → Good a → (w : List Entry) → AllWords w →
     history callArea decode a w ≡ history callStore (λ s. s) (decode a) w

@@ -1,6 +1,5 @@
--- A store in range: sizes in limits, each word in its bounds and below 2^32, and 0 past the sizes. It is what an area of bytes holds that
--- is well formed, and what encoding and decoding keep. Begin and step keep it, of any such store, grown from fresh or made by hand: so
--- no call turns a well-formed area into a malformed one. A word that an act puts is in its bounds, one clause an act.
+-- Begin and step keep a store in range, of any such store, grown from fresh or made by hand: so no call turns a well-formed area into
+-- a malformed one. A word that an act puts is in its bounds, one clause an act.
 -- Assumes nothing.
 use mathlib.Core.Path.{_≡_, refl}
 use mathlib.Core.Bool.{Bool, true, false, _&&_, _||_}
@@ -23,8 +22,8 @@ use Rattle.meaning.specs.declared.Verdict.{Verdict}
 use Rattle.meaning.specs.declared.Verdict.the-variants.{Blocked, Fault, Go, Done}
 use Rattle.meaning.specs.declared.Found.{Found}
 use Rattle.meaning.specs.declared.Found.the-variants.{Nobody, At}
-use Rattle.meaning.specs.Limits.{mostWord, within, inLimits}
-use Rattle.meaning.specs.Store.{Store, idle, fresh}
+use Rattle.meaning.specs.Limits.{mostWord, within}
+use Rattle.meaning.specs.Store.{Store, idle}
 use Rattle.meaning.specs.Holding.{free, heldBy, named}
 use Rattle.meaning.specs.Programs.{WRITE, LEVEL, lastLine, actAt}
 use Rattle.meaning.specs.Choosing.{lowestFree, best, toBlock, leastWorn, fromBlock}
@@ -34,50 +33,12 @@ use Rattle.meaning.specs.Schedule.{Words}
 use Rattle.meaning.proofs.Words.{clash, and-left, and-right, within-true, either-way, upd-each, named-below}
 use Rattle.meaning.proofs.Invariant.{Changes, Puts, Stands}
 use Rattle.meaning.proofs.Keeping.{everyLine, everywhere}
+use Rattle.meaning.proofs.Called.{by-begin, by-step}
 use Rattle.meaning.proofs.Lines.{_▸_, from-at}
 use Rattle.meaning.proofs.Blocks.{finds, lacks, Best, best-finds}
 use Rattle.store.specs.Area.{word}
-use Rattle.store.proofs.Sound.{Sizes, limits-sizes, Working, SoundThread}
-
--- ---- a store in range
-
--- entry k of a table of so many: at most the bound, and 0 past the size
-pub record Cell (size bound k w : ℕ) : Type 0 where
-  pub low : k < size → w ≤ bound
-  pub past : size ≤ k → 0 ≡ w
-
--- thread t's record of so many threads
-pub record Seat (threads numbers blocks t : ℕ) (r : Thread) : Type 0 where
-  pub sound : t < threads → SoundThread numbers blocks r
-  pub c : r .c ≤ mostWord
-  pub past : threads ≤ t → idle ≡ r
-
-pub record Ranged (s : Store) : Type 0 where
-  pub sizes : Sizes (s .threads) (s .numbers) (s .blocks) (s .distance)
-  pub lock : s .lock ≤ s .threads
-  pub owner : s .owner ≤ s .threads
-  pub thread : (t : ℕ) → Seat (s .threads) (s .numbers) (s .blocks) t (s .thread t)
-  pub map : (k : ℕ) → Cell (s .numbers) (s .blocks) k (s .map k)
-  pub locks : (k : ℕ) → Cell (s .numbers) (s .threads) k (s .locks k)
-  pub header : (m : ℕ) → Cell (s .blocks) (s .numbers) m (s .header m)
-  pub content : (m : ℕ) → Cell (s .blocks) mostWord m (s .content m)
-  pub wear : (m : ℕ) → Cell (s .blocks) mostWord m (s .wear m)
-  pub own : (m : ℕ) → Cell (s .blocks) (s .threads) m (s .own m)
-
-pub ranged-fresh : (t n p d : ℕ) → inLimits t n p d ≡ true → Ranged (fresh t n p d)
-ranged-fresh t n p d l =
-    record {
-      sizes = limits-sizes t n p d l;
-      lock = omega arith;
-      owner = omega arith;
-      thread = λ v. record { sound = λ _. inl refl; c = omega arith; past = λ _. refl };
-      map = λ k. omega arith;
-      locks = λ k. omega arith;
-      header = λ k. omega arith;
-      content = λ k. omega arith;
-      wear = λ k. omega arith;
-      own = λ k. omega arith;
-    }
+use Rattle.store.proofs.Sound.{Working, SoundThread}
+use Rattle.store.proofs.Range.{Cell, Seat, Ranged}
 
 -- ---- a record and an effect that keep it
 
@@ -288,15 +249,10 @@ abbrev pub Leaves : Outcome → Type 0
 Leaves (refused number) = Unit {0}
 Leaves (left number value s) = Ranged s
 
--- an operation has a line, and none has more than levelling
+-- an operation has a line
 some-line : (op : ℕ) → WRITE ≤ op → op ≤ LEVEL → 1 ≤ lastLine op
 some-line op low high =
     from-at (λ o. 1 ≤ lastLine o) LEVEL WRITE (omega arith ▸ omega arith ▸ omega arith ▸ omega arith ▸ tt) op low (omega arith)
-
-pub few-lines : (op : ℕ) → op ≤ LEVEL → lastLine op ≤ lastLine LEVEL
-few-lines op high =
-    from-at (λ o. lastLine o ≤ lastLine LEVEL) (LEVEL + 1) 0
-    (omega arith ▸ omega arith ▸ omega arith ▸ omega arith ▸ omega arith ▸ tt) op (omega arith) (omega arith)
 
 module _ (s : Store) (R : Ranged s) (t : ℕ) (below : t < s .threads) where
   open-working : isIdle (s .thread t) ≡ false → Working (s .numbers) (s .blocks) (s .thread t)
@@ -351,17 +307,5 @@ module _ (s : Store) (R : Ranged s) (t : ℕ) (below : t < s .threads) where
 
 pub calling-ranged : (s : Store) → Ranged s → (e : Call) → Words e → Leaves (calling s e)
 calling-ranged s R (begin t op n c) w =
-    either-way (ltb t (s .threads))
-    (λ b. rw b (either-way (isIdle (s .thread t))
-    (λ x. rw x (either-way (within WRITE LEVEL op)
-    (λ y. rw y (either-way (eqb op LEVEL || ltb n (s .numbers))
-    (λ z. rw z (begin-ranged s R t (ltb-true t (s .threads) b) op n c (w .3) y z))
-    (λ z. rw z tt)))
-    (λ y. rw y tt)))
-    (λ x. rw x tt)))
-    (λ b. rw b tt)
-calling-ranged s R (step t) w =
-    either-way (ltb t (s .threads))
-    (λ b. rw b (either-way (isIdle (s .thread t)) (λ x. rw x tt)
-    (λ x. rw x (step-ranged s R t (ltb-true t (s .threads) b) x))))
-    (λ b. rw b tt)
+    by-begin Leaves s t op n c (λ _ _. tt) (λ b _ y z. begin-ranged s R t b op n c (w .3) y z)
+calling-ranged s R (step t) w = by-step Leaves s t (λ _ _. tt) (λ b x. step-ranged s R t b x)

@@ -1,17 +1,15 @@
 -- An area of zeros with the four sizes put is the area of a fresh store. Assumes nothing.
 use mathlib.Core.Path.{_≡_, refl, _∙_, sym, ap, fun-ext}
-use mathlib.Core.Bool.{Bool, true, false, cond}
-use mathlib.Core.List.{List}
+use mathlib.Core.List.{List, [], _∷_}
 use Prim.Native.Nat.{ℕ, zero, suc, _+_, _*_, _<_}
 use native.Mathlib.Omega.{arith}
-use lib.Dec.{eqb, ltb}
 use lib.ListN.{getD, length, replicate, length-replicate}
-use borrow.Author.Tests.{ne-eqb}
-use Rattle.meaning.specs.Table.{upd, below}
+use Rattle.meaning.specs.Table.{below}
 use Rattle.meaning.specs.Store.{idle, fresh}
 use Rattle.store.specs.Layout.{tAt, nAt, pAt, dAt, threadsAt, threadWords, mapAt, locksAt, blocksAt, blockWords, size}
 use Rattle.store.specs.Area.{Bytes, word, putWord, threadFrom, column, storeOf, encode, decode}
-use Rattle.store.proofs.Words.{word-put, length-putWord, bytes-put}
+use Rattle.store.proofs.Decode.{below-is}
+use Rattle.store.proofs.Words.{putFrom, updFrom, length-putFrom, bytes-putFrom, word-putFrom, updFrom-other}
 use Rattle.store.proofs.Sound.{Sizes}
 use Rattle.store.proofs.Codec.{encode-decode}
 
@@ -30,24 +28,17 @@ zero-bytes m i = rw (zeros-at m i) (omega arith)
 -- ---- the words of the sizes and of nothing else
 
 nothing-below : {A : Type 0} (z : A) (count : ℕ) (f : ℕ → A) → ((k : ℕ) → f k ≡ z) → below z count f ≡ (λ _. z)
-nothing-below {A} z count f h = fun-ext λ k. by-size (ltb k count) (h k)
-  where
-    by-size : {x : A} (b : Bool) → x ≡ z → cond b x z ≡ z
-    by-size true e = e
-    by-size false e = refl
+nothing-below z count f h = below-is z count f (λ _. z) (λ k _. h k) (λ k _. refl)
 
 module _ (t n p d : ℕ) where
+  abbrev sizes : List ℕ
+  sizes = t ∷ n ∷ p ∷ d ∷ []
+
   abbrev headWords : ℕ → ℕ
-  headWords = upd (upd (upd (upd (λ _. 0) tAt t) nAt n) pAt p) dAt d
+  headWords = updFrom (λ _. 0) 0 tAt sizes
 
   past : (i : ℕ) → dAt < i → headWords i ≡ 0
-  past i h =
-      rw (
-        ne-eqb dAt i (λ e. omega arith),
-        ne-eqb pAt i (λ e. omega arith),
-        ne-eqb nAt i (λ e. omega arith),
-        ne-eqb tAt i (λ e. omega arith),
-      )
+  past i h = updFrom-other (λ _. 0) 0 tAt sizes i (λ l u. omega arith)
 
   empty-column : (from stride count : ℕ) → dAt < from → column headWords from stride count ≡ (λ _. 0)
   empty-column from stride count h = nothing-below 0 count _ (λ k. past (from + stride * k) (omega arith))
@@ -85,64 +76,29 @@ module _ (t n p d : ℕ) where
   -- ---- the area
 
   module _ (z : Sizes t n p d) where
-    a₀ : List ℕ
-    a₀ = replicate (size t n p) 0
+    area : List ℕ
+    area = putFrom (replicate (size t n p) 0) 0 tAt sizes
 
-    a₁ : List ℕ
-    a₁ = putWord a₀ tAt t
+    long : length area ≡ size t n p
+    unfolding area
+    long = length-putFrom (replicate (size t n p) 0) 0 tAt sizes ∙ length-replicate (size t n p) 0
 
-    a₂ : List ℕ
-    a₂ = putWord a₁ nAt n
-
-    a₃ : List ℕ
-    a₃ = putWord a₂ pAt p
-
-    a₄ : List ℕ
-    a₄ = putWord a₃ dAt d
-
-    long₀ : length a₀ ≡ size t n p
-    unfolding a₀
-    long₀ = length-replicate (size t n p) 0
-
-    long₁ : length a₁ ≡ size t n p
-    unfolding a₁
-    long₁ = length-putWord a₀ tAt t ∙ long₀
-
-    long₂ : length a₂ ≡ size t n p
-    unfolding a₂
-    long₂ = length-putWord a₁ nAt n ∙ long₁
-
-    long₃ : length a₃ ≡ size t n p
-    unfolding a₃
-    long₃ = length-putWord a₂ pAt p ∙ long₂
-
-    long₄ : length a₄ ≡ size t n p
-    unfolding a₄
-    long₄ = length-putWord a₃ dAt d ∙ long₃
-
-    words-head : word a₄ ≡ headWords
-    unfolding a₀ a₁ a₂ a₃ a₄
+    words-head : word area ≡ headWords
+    unfolding area
     words-head =
-        word-put a₃ dAt d (omega (arith, long₃)) (omega (arith, z .d-high))
-        ∙ ap (λ f. upd f dAt d)
-        (word-put a₂ pAt p (omega (arith, long₂)) (omega (arith, z .p-high))
-        ∙ ap (λ f. upd f pAt p)
-        (word-put a₁ nAt n (omega (arith, long₁)) (omega (arith, z .n-high))
-        ∙ ap (λ f. upd f nAt n)
-        (word-put a₀ tAt t (omega (arith, long₀)) (omega (arith, z .t-high))
-        ∙ ap (λ f. upd f tAt t) (fun-ext (zero-word (size t n p))))))
+        word-putFrom (replicate (size t n p) 0) 0 tAt sizes (omega (arith, length-replicate {A = ℕ} (size t n p) 0)) (omega (arith, z))
+        ∙ ap (λ f. updFrom f 0 tAt sizes) (fun-ext (zero-word (size t n p)))
 
-    decode-head : decode a₄ ≡ fresh t n p d
+    decode-head : decode area ≡ fresh t n p d
     decode-head = ap (λ (f : ℕ → ℕ). storeOf f (f tAt) (f nAt) (f pAt)) words-head ∙ store-fresh
 
-    bytes-head : Bytes a₄
-    unfolding a₀ a₁ a₂ a₃ a₄
-    bytes-head =
-        bytes-put a₃ dAt d (bytes-put a₂ pAt p (bytes-put a₁ nAt n (bytes-put a₀ tAt t (zero-bytes (size t n p)))))
+    bytes-head : Bytes area
+    unfolding area
+    bytes-head = bytes-putFrom (replicate (size t n p) 0) 0 tAt sizes (zero-bytes (size t n p))
 
-    fitted-head : length a₄ ≡ size (word a₄ tAt) (word a₄ nAt) (word a₄ pAt)
-    fitted-head = long₄ ∙ sym (ap (λ (f : ℕ → ℕ). size (f tAt) (f nAt) (f pAt)) words-head)
+    fitted-head : length area ≡ size (word area tAt) (word area nAt) (word area pAt)
+    fitted-head = long ∙ sym (ap (λ (f : ℕ → ℕ). size (f tAt) (f nAt) (f pAt)) words-head)
 
     pub area-fresh : putWord (putWord (putWord (putWord (replicate (size t n p) 0) tAt t) nAt n) pAt p) dAt d ≡ encode (fresh t n p d)
-    unfolding a₀ a₁ a₂ a₃ a₄
-    area-fresh = sym (encode-decode a₄ bytes-head fitted-head) ∙ ap encode decode-head
+    unfolding area
+    area-fresh = sym (encode-decode area bytes-head fitted-head) ∙ ap encode decode-head

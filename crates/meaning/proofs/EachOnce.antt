@@ -18,10 +18,11 @@ use Rattle.meaning.specs.Limits.{within, inLimits}
 use Rattle.meaning.specs.Store.{Store, idle, fresh}
 use Rattle.meaning.specs.Programs.{WRITE, LEVEL, lastLine, actAt, lastTake, unmovedTake}
 use Rattle.meaning.specs.Step.{nothing, apply}
-use Rattle.meaning.specs.Call.{Entry, begin, step, callStore, isIdle, begun, storedN, storedC}
+use Rattle.meaning.specs.Call.{Entry, begin, step, callStore, isIdle, begun, storedN, storedC, reply}
 use Rattle.meaning.specs.Schedule.{Operation, Answered, operation, emit, takesLast, placed, run, placing, starting, finishing, order, begunBy, finishedBy}
 use Rattle.meaning.specs.Demands.{ofThread, ops, answeredOps, pending, placedOp, EachOnce}
 use Rattle.meaning.proofs.Words.{same, either-way, and-left, and-right, or-way, within-true, upd-same, upd-other}
+use Rattle.meaning.proofs.Called.{by-begin, refused-not}
 use Rattle.meaning.proofs.Invariant.{Inv}
 use Rattle.meaning.proofs.Lines.{_▸_, from-at}
 use Rattle.meaning.proofs.EveryLine.{idle-is, open-line, begins}
@@ -149,20 +150,16 @@ module _ (s : Store) (I : Inv s) (u : ℕ) where
   begun-sees : (t op n c : ℕ) →
       Sees u s (callStore s (begin t op n c) .after) (starting callStore (λ s. s) s u (begin t op n c) []) [] []
   begun-sees t op n c =
-      either-way (ltb t (s .threads))
-      (λ b. rw b (either-way (isIdle (s .thread t))
-      (λ x. rw x (either-way (within WRITE LEVEL op)
-      (λ y. rw y (either-way (eqb op LEVEL || ltb n (s .numbers))
-      (λ z. rw z (either-way (eqb t u)
+      by-begin
+      (λ o. let y = reply (λ s′. s′) s o in Sees u s (y .after) (emit (eqb (y .number) WENT && eqb t u) (operation t op n c) []) [] [])
+      s t op n c
+      (λ number x. rw (refused-not number x WENT refl) (sees-same u s s refl refl))
+      (λ b x y z. either-way (eqb t u)
       (λ e. rw e (subst (λ (t : ℕ). Sees u s (apply s t (begun op n c) nothing) (operation t op n c ∷ []) [] [])
       (sym (eqb-true t u e))
       (begun-own op n c (rw (eqb-true t u e) at x) y z)))
       (λ e. rw e (sees-same u s (apply s t (begun op n c) nothing)
-      (upd-other (s .thread) t u (begun op n c) (eqb-false t u e)) refl))))
-      (λ z. rw z (sees-same u s s refl refl))))
-      (λ y. rw y (sees-same u s s refl refl))))
-      (λ x. rw x (sees-same u s s refl refl))))
-      (λ b. rw b (sees-same u s s refl refl))
+      (upd-other (s .thread) t u (begun op n c) (eqb-false t u e)) refl)))
 
   module _ (g : Going s u) where
     abbrev r : Thread

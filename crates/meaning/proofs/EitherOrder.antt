@@ -7,8 +7,8 @@ use mathlib.Core.Path.{_≡_, refl, sym, ap, _∙_, subst, fun-ext}
 use mathlib.Core.Bool.{Bool, true, false, _&&_, _||_, or-true}
 use Prim.Native.Nat.{ℕ, _<_}
 use native.Mathlib.Omega.{arith}
-use lib.Dec.{eqb, ltb, leb}
-use borrow.Author.Tests.{eqb-true, eq-eqb, ne-eqb, ltb-true, lt-ltb}
+use lib.Dec.{eqb, leb}
+use borrow.Author.Tests.{eqb-true, eq-eqb, ne-eqb, lt-ltb}
 use Rattle.meaning.specs.declared.Act.{Act}
 use Rattle.meaning.specs.declared.Act.the-variants.{Nothing, TakeH, ReleaseH, FinishH, TakeN, ReleaseN, FinishN, OwnHeaders, LetGoHeaders, Own, LetGo, GoIfMapped, GoIfUnmapped, EmptyIfUnmapped, GoIfFree, PickFree, Choose, ReadHeader, WriteHeaderN, WriteHeaderH, FreeHeader, EmptyContent, ReadContent, WriteContent, MapTo, Unmap}
 use Rattle.meaning.specs.declared.Thread.{Thread}
@@ -29,6 +29,7 @@ use Rattle.meaning.specs.Programs.{actAt}
 use Rattle.meaning.specs.Step.{block, setC, nothing, next, need, touches, choosing, perform, verdict, become, put, apply}
 use Rattle.meaning.specs.Call.{Reply, step, callStore, told, reply, isIdle}
 use Rattle.meaning.proofs.Words.{either-way, by-held, clash, and-left, and-right, or-way, by-other, held-once, held-not-free, upd-same, upd-other, upd-each}
+use Rattle.meaning.proofs.Called.{by-step}
 use Rattle.meaning.proofs.Invariant.{takesH, takesN, takesLock, holdsH, ownsHeaders, ownsP, Passes, takes, gives, Changes, Puts, Guards, GuardsMap, GuardsHeader, GuardsContent, GuardsWear, Inv}
 use Rattle.meaning.proofs.Keeping.{reads-map, everyLine, everywhere, standing, p-owned, Moves, moves-inv, word-kept, entry-kept, map-kept, header-kept, wear-kept, content-kept}
 use Rattle.meaning.proofs.Lines.{Fine}
@@ -328,10 +329,8 @@ module _ (s : Store) (t : ℕ) where
 
   pub can-going : CanStep s t → Going s t
   can-going c =
-      either-way (ltb t (s .threads))
-      (λ b. either-way (isIdle (s .thread t)) (λ x. clash (rw (b, x) at c) refl)
-      (λ x. told-going (ltb-true t (s .threads) b) x (verdict s t) refl (rw (b, x) at c)))
-      (λ b. clash (rw b at c) refl)
+      by-step (λ o. leb (reply (λ s′. s′) s o .number) FINISHED ≡ true → Going s t) s t (λ number x y. clash y x)
+      (λ b x y. told-going b x (verdict s t) refl y) c
 
   goes-reply : (v : Verdict) (n a : ℕ) (r : Thread) (e : Effect) → Goes v n a r e →
       reply (λ s′. s′) s (told s t v) ≡ record { number = n; value = a; after = apply s t r e }
@@ -356,10 +355,10 @@ module _ (s : Store) (t : ℕ) where
   goes-unblocked v n a r e goes x = let z : _≡_ {A = ℕ} 0 1 = cc in omega arith
   goes-unblocked v n a r e ends x = let z : _≡_ {A = ℕ} 0 1 = cc in omega arith
 
--- u's step goes after t's as it did before
-module _ (s : Store) (I : Inv s) (t u : ℕ) (apart : t ≡ u → ⊥) (others : sameTake (s .thread t) (s .thread u) ≡ false)
-    (g : Going s t) (k : Going s u) where
-  abbrev still : Going (left-by s t g) u
+-- thread t moves on with record r′ and an effect; u's step goes then as it did before
+module _ (s : Store) (I : Inv s) (t : ℕ) (r′ : Thread) (e : Effect) (M : Moves s t (s .thread t) r′ e) (below : t < s .threads)
+    (u : ℕ) (apart : t ≡ u → ⊥) (others : sameTake (s .thread t) (s .thread u) ≡ false) (k : Going s u) where
+  abbrev pub still : Going (apply s t r′ e) u
   still =
       record {
         below = k .below;
@@ -369,18 +368,15 @@ module _ (s : Store) (I : Inv s) (t u : ℕ) (apart : t ≡ u → ⊥) (others :
         becomes = k .becomes;
         effect = k .effect;
         told′ =
-            rw (verdict-alike s I t (g .becomes) (g .effect) (going-moves s t I g) u apart others (g .below) (k .below) (k .busy)
+            rw (verdict-alike s I t r′ e M u apart others below (k .below) (k .busy)
             (goes-unblocked s u (verdict s u) (k .number) (k .value) (k .becomes) (k .effect) (k .told′))) (k .told′);
       }
 
-  still-reply : callStore (callStore s (step t) .after) (step u) ≡ answered (left-by s t g) u still
-  still-reply = rw (going-reply s t g) (going-reply (left-by s t g) u still)
-
-  still-guards : Guards (left-by s t g) u (s .thread u) (k .effect)
-  still-guards =
-      let I′ = moves-inv s I t (g .becomes) (g .effect) (going-moves s t I g) (g .below) in
-      subst (λ (r : Thread). Guards (left-by s t g) u r (k .effect)) (upd-other (s .thread) t u (g .becomes) apart)
-      (going-moves (left-by s t g) u I′ still .guards)
+  pub still-left : left-by (apply s t r′ e) u still ≡ apply (left-by s u k) t r′ e
+  still-left =
+      applies-commute t u apart s (s .thread t) (s .thread u) r′ (k .becomes) e (k .effect) (M .guards) (going-moves s u I k .guards)
+      (subst (λ (r : Thread). Guards (apply s t r′ e) u r (k .effect)) (upd-other (s .thread) t u r′ apart)
+      (going-moves (apply s t r′ e) u (moves-inv s I t r′ e M below) still .guards))
 
 -- ---- either order
 
@@ -402,8 +398,14 @@ pub either-order : (s : Store) → Inv s → (t u : ℕ) → (t ≡ u → ⊥) �
 either-order s I t u apart steps steps′ others =
     let g = can-going s t steps in
     let k = can-going s u steps′ in
-    let u-second = still-reply s I t u apart others g k in
-    let t-second = still-reply s I u t (λ e. apart (sym e)) (sameTake-sym (s .thread t) (s .thread u) others) k g in
+    let M = going-moves s t I g in
+    let others′ = sameTake-sym (s .thread t) (s .thread u) others in
+    let u-after = still s I t (g .becomes) (g .effect) M (g .below) u apart others k in
+    let t-after = still s I u (k .becomes) (k .effect) (going-moves s u I k) (k .below) t (λ e. apart (sym e)) others′ g in
+    let u-second : callStore (callStore s (step t) .after) (step u) ≡ answered (left-by s t g) u u-after =
+    rw (going-reply s t g) (going-reply (left-by s t g) u u-after) in
+    let t-second : callStore (callStore s (step u) .after) (step t) ≡ answered (left-by s u k) t t-after =
+    rw (going-reply s u k) (going-reply (left-by s u k) t t-after) in
     record {
       number = ap (λ (x : Reply Store). x .number) t-second ∙ sym (ap (λ (x : Reply Store). x .number) (going-reply s t g));
       value = ap (λ (x : Reply Store). x .value) t-second ∙ sym (ap (λ (x : Reply Store). x .value) (going-reply s t g));
@@ -411,7 +413,6 @@ either-order s I t u apart steps steps′ others =
       other-value = ap (λ (x : Reply Store). x .value) u-second ∙ sym (ap (λ (x : Reply Store). x .value) (going-reply s u k));
       after =
           ap (λ (x : Reply Store). x .after) u-second
-          ∙ applies-commute t u apart s (s .thread t) (s .thread u) (g .becomes) (k .becomes) (g .effect) (k .effect)
-          (going-moves s t I g .guards) (going-moves s u I k .guards) (still-guards s I t u apart others g k)
+          ∙ still-left s I t (g .becomes) (g .effect) M (g .below) u apart others k
           ∙ sym (ap (λ (x : Reply Store). x .after) t-second);
     }

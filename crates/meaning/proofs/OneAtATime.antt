@@ -4,24 +4,24 @@
 -- open operation that has its place (`answers-so-far`).
 -- Assumes nothing.
 use mathlib.Core.Path.{_≡_, refl, sym, ap, _∙_, subst}
-use mathlib.Core.Bool.{Bool, true, false, _&&_, _||_, and-false}
+use mathlib.Core.Bool.{Bool, true, false, _&&_, and-false}
 use mathlib.Core.List.{List, [], _∷_, _++_, append-nil, append-assoc}
 use Prim.Native.Nat.{ℕ, _≤_}
 use native.Mathlib.Omega.{arith}
 use lib.ListN.{length}
-use lib.Dec.{eqb, ltb, leb}
-use borrow.Author.Tests.{eqb-true, eqb-false, ne-eqb, ltb-true}
+use lib.Dec.{eqb, leb}
+use borrow.Author.Tests.{eqb-true, eqb-false, ne-eqb}
 use Rattle.meaning.specs.declared.Thread.{Thread}
 use Rattle.meaning.specs.Numbers.{WENT, FINISHED}
-use Rattle.meaning.specs.Limits.{within, inLimits}
+use Rattle.meaning.specs.Limits.{inLimits}
 use Rattle.meaning.specs.Store.{Store, idle, fresh}
 use Rattle.meaning.specs.Holding.{none, heldBy}
-use Rattle.meaning.specs.Programs.{WRITE, LEVEL}
 use Rattle.meaning.specs.Step.{nothing, apply}
-use Rattle.meaning.specs.Call.{Reply, Entry, begin, step, callStore, told, isIdle, begun}
+use Rattle.meaning.specs.Call.{Reply, Entry, begin, step, callStore, told, isIdle, begun, reply}
 use Rattle.meaning.specs.Schedule.{Operation, Answered, emit, takesLast, placed, run, placing, finishing, order, serial}
 use Rattle.meaning.specs.Demands.{Owed, none-owed, one-owed, OneAtATime, AnswersSoFar}
 use Rattle.meaning.proofs.Words.{same, either-way, clash, nobody-free, free-none, upd-same, upd-other}
+use Rattle.meaning.proofs.Called.{by-begin}
 use Rattle.meaning.proofs.Invariant.{holdsH, ownsHeaders, holdsLock, ownsBlock, Inv}
 use Rattle.meaning.proofs.EveryLine.{idle-is}
 use Rattle.meaning.proofs.Demand1.{inv-fresh, inv-call, inv-run}
@@ -73,16 +73,9 @@ module _ (s : Store) (I : Inv s) (d : Store) (a : ℕ → List Answered) (S : Se
 
   begin-after : (t op n c : ℕ) → After (callStore s (begin t op n c) .after) d a [] (λ u. [])
   begin-after t op n c =
-      either-way (ltb t (s .threads))
-      (λ b. rw b (either-way (isIdle (s .thread t))
-      (λ x. rw x (either-way (within WRITE LEVEL op)
-      (λ y. rw y (either-way (eqb op LEVEL || ltb n (s .numbers))
-      (λ z. rw z (kept-after (apply s t (begun op n c) nothing) d a
-      (begin-settles t op n c y I (record { below = ltb-true t (s .threads) b; rests = x; logical = z }) S)))
-      (λ z. rw z (same-after s d a S))))
-      (λ y. rw y (same-after s d a S))))
-      (λ x. rw x (same-after s d a S))))
-      (λ b. rw b (same-after s d a S))
+      by-begin (λ o. After (reply (λ s′. s′) s o .after) d a [] (λ u. [])) s t op n c (λ _ _. same-after s d a S)
+      (λ b x y z. kept-after (apply s t (begun op n c) nothing) d a
+      (begin-settles t op n c y I (record { below = b; rests = x; logical = z }) S))
 
   module _ (t : ℕ) (g : Going s t) where
     abbrev r : Thread

@@ -6,15 +6,15 @@ use mathlib.Core.Bool.{Bool, true, false, _&&_}
 use mathlib.Core.List.{List, [], _∷_, _++_, append-assoc}
 use Prim.Native.Nat.{ℕ, zero, suc, _+_}
 use native.Mathlib.Omega.{arith}
-use lib.Dec.{eqb, ltb, leb}
-use borrow.Author.Tests.{eqb-true}
+use lib.Dec.{eqb, leb}
 use Rattle.meaning.specs.declared.Verdict.{Verdict}
 use Rattle.meaning.specs.declared.Verdict.the-variants.{Blocked, Fault, Go, Done}
 use Rattle.meaning.specs.Numbers.{WENT, FINISHED}
 use Rattle.meaning.specs.Store.{Store}
 use Rattle.meaning.specs.Step.{verdict}
-use Rattle.meaning.specs.Call.{Reply, Entry, begin, step, callStore, reply, told, isIdle}
-use Rattle.meaning.proofs.Words.{either-way, clash}
+use Rattle.meaning.specs.Call.{Reply, Entry, begin, step, callStore, reply, told}
+use Rattle.meaning.proofs.Words.{clash}
+use Rattle.meaning.proofs.Called.{by-step, refused-not}
 use Rattle.meaning.specs.Schedule.{Operation, Answered, emit, takesLast, run, placing, starting, finishing, order, finishedBy, steps, longest, whole, serial}
 
 pub emit-append : {A : Type 0} (b : Bool) (x : A) (l m : List A) → emit b x l ++ m ≡ emit b x (l ++ m)
@@ -93,14 +93,10 @@ module _ (s : Store) where
   pub step-stays : (P : Store → Type 0) (t : ℕ) → leb (callStore s (step t) .number) FINISHED ≡ false → P s →
       P (callStore s (step t) .after)
   step-stays P t x p =
-      either-way (ltb t (s .threads))
-      (λ b. rw b (either-way (isIdle (s .thread t)) (λ y. rw y p)
-      (λ y. rw y (subst P (sym (told-stays t (verdict s t) (rw (b, y) at x))) p))))
-      (λ b. rw b p)
+      by-step (λ o. leb (reply (λ s′. s′) s o .number) FINISHED ≡ false → P (reply (λ s′. s′) s o .after)) s t (λ _ _ _. p)
+      (λ _ _ y. subst P (sym (told-stays t (verdict s t) y)) p) x
 
   -- a number that is neither WENT nor FINISHED
   pub refused-number : (t k : ℕ) → leb k FINISHED ≡ true → leb (callStore s (step t) .number) FINISHED ≡ false →
       eqb (callStore s (step t) .number) k ≡ false
-  refused-number t k small x =
-      either-way (eqb (callStore s (step t) .number) k)
-      (λ y. clash small (subst (λ (m : ℕ). leb m FINISHED ≡ false) (eqb-true (callStore s (step t) .number) k y) x)) (λ y. y)
+  refused-number t k small x = refused-not (callStore s (step t) .number) x k small

@@ -20,11 +20,11 @@ use Rattle.meaning.specs.Step.{nothing, verdict, apply}
 use Rattle.meaning.specs.Call.{Reply, step, callStore, isIdle, begun}
 use Rattle.meaning.specs.Schedule.{Answered, emit, takesLast, placed, finishing}
 use Rattle.meaning.proofs.Words.{either-way, clash, upd-other, upd-each}
-use Rattle.meaning.proofs.Invariant.{takesH, Guards, Inv}
-use Rattle.meaning.proofs.Keeping.{Moves, moves-inv}
+use Rattle.meaning.proofs.Invariant.{takesH, Inv}
+use Rattle.meaning.proofs.Keeping.{Moves}
 use Rattle.meaning.proofs.EveryLine.{idle-is, begins}
 use Rattle.meaning.proofs.Demand1.{inv-call}
-use Rattle.meaning.proofs.EitherOrder.{sameTake, sameTake-sym, Goes, Going, left-by, going-reply, going-moves, goes-unblocked, verdict-alike, applies-commute}
+use Rattle.meaning.proofs.EitherOrder.{sameTake, sameTake-sym, Goes, Going, left-by, going-reply, going-moves, still, still-left}
 use Rattle.meaning.proofs.Shapes.{Quiet}
 use Rattle.meaning.proofs.Places.{went, over, Came, going-came, first-unplaced, placed-takesH, placed-takesN, placed-going, placed-kept, last-kept}
 
@@ -88,18 +88,7 @@ module _ (s : Store) (I : Inv s) (t : ℕ) (r′ : Thread) (e : Effect) (M : Mov
   takes-apart = rw (placed-takesH s I u has, placed-takesN s I u has, and-false (takesH (s .thread t)))
 
   abbrev k-after : Going left u
-  k-after =
-      record {
-        below = k .below;
-        busy = rw (ne-eqb t u apart) (k .busy);
-        number = k .number;
-        value = k .value;
-        becomes = k .becomes;
-        effect = k .effect;
-        told′ =
-            rw (verdict-alike s I t r′ e M u apart takes-apart below (k .below) (k .busy)
-            (goes-unblocked s u (verdict s u) (k .number) (k .value) (k .becomes) (k .effect) (k .told′))) (k .told′);
-      }
+  k-after = still s I t r′ e M below u apart takes-apart k
 
   pub still-placed : placed left (left .thread u) ≡ true
   still-placed = rw (upd-other (s .thread) t u r′ apart) (placed-kept s I t r′ e M u apart ∙ has)
@@ -112,10 +101,7 @@ module _ (s : Store) (I : Inv s) (t : ℕ) (r′ : Thread) (e : Effect) (M : Mov
   pub stepped-after : stepped left u ≡ apply (stepped s u) t r′ e
   stepped-after =
       stepped-is left u k-after
-      ∙ applies-commute t u apart s (s .thread t) (s .thread u) r′ (k .becomes) e (k .effect) (M .guards)
-      (going-moves s u I k .guards)
-      (subst (λ (r : Thread). Guards left u r (k .effect)) (upd-other (s .thread) t u r′ apart)
-      (going-moves left u (moves-inv s I t r′ e M below) k-after .guards))
+      ∙ still-left s I t r′ e M below u apart takes-apart k
       ∙ sym (ap (λ (x : Store). apply x t r′ e) (stepped-is s u k))
 
 -- what s comes to after the move: Rel says what becomes of the answers
@@ -217,9 +203,7 @@ module _ (t : ℕ) (r : Thread) (number value : ℕ) (r′ : Thread) (e : Effect
         is = same ∙ C .is;
         below = C .below;
         busy = C .busy;
-        told =
-            rw (verdict-alike s I u (k .becomes) (k .effect) M t others takes (k .below) (C .below) (g .busy)
-            (goes-unblocked s t (verdict s t) number value r′ e (C .told))) (C .told);
+        told = still s I u (k .becomes) (k .effect) M (k .below) t others takes g .told′;
         has = rw (C .is) at (placed-kept s I u (k .becomes) (k .effect) M t others) ∙ C .has;
         takes = rw (C .is) at (last-kept s I u (k .becomes) (k .effect) M t others g) ∙ C .takes;
       })

@@ -38,6 +38,14 @@ pub taken-reply :
 taken-reply both used front rest r e small after long =
     rw (e, packed-number (r .number) (r .value) small, packed-value (r .number) (r .value) small, take-at front rest used long, after)
 
+-- a begin or a step there, which keeps the length
+pub taken-call :
+    (buffer : List ℕ) (used : ℕ) → used ≤ length buffer → (r : Reply (List ℕ)) → r .value < wordRange → (both : ℕ) (front : List ℕ)
+    → (both ≡ packed (r .number) (r .value)) × (front ≡ r .after) → length front ≡ length (take used buffer)
+    → (replied (taken both used (front ++ drop used buffer)) ≡ replied r) × (used ≤ length buffer)
+taken-call buffer used inside r small both front g kept =
+    (taken-reply both used front (drop used buffer) r (g .0) small (g .1) (kept ∙ length-take-le used buffer inside), inside)
+
 -- ---- the format of a new store on the front of a buffer
 
 pub wanted-fits : (t n p want : ℕ) → want ≡ cond (leb (size t n p) largest) (size t n p) 0 → want ≤ largest

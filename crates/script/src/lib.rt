@@ -280,12 +280,11 @@ fn put_reply(out: &mut [u8], at: usize, number: u32, value: u32) -> usize
 fn wanted(t: u32, n: u32, p: u32) -> usize
     ensures { λ r. ⌜ r ≡ cond (leb (size t n p) largest) (size t n p) 0 ⌝ }
 {
-    let threads = t as u64;
-    let numbers = n as u64;
-    let blocks = p as u64;
-    let length = 4 * (6 + 7 * threads + numbers + numbers + 4 * blocks);
-    if length <= LARGEST as u64 {
-        return length as usize;
+    let numbers = n as usize;
+    let map_at = store::THREADS_AT + store::THREAD_WORDS * t as usize;
+    let length = 4 * (map_at + numbers + numbers + store::BLOCK_WORDS * p as usize);
+    if length <= LARGEST {
+        return length;
     }
     0
 }

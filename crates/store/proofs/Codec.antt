@@ -1,7 +1,7 @@
 -- Decoding and encoding undo one another: an area of bytes that fits is the area of the store that it holds, and a store in range is
 -- the store that its area holds. Assumes nothing.
 use mathlib.Core.Path.{_≡_, refl, _∙_, sym, ap, ap₂, fun-ext}
-use mathlib.Core.Bool.{Bool, true, false, cond}
+use mathlib.Core.Bool.{true}
 use mathlib.Core.List.{List, [], _∷_, _++_}
 use Prim.Native.Nat.{ℕ, zero, suc, _+_, _*_, _<_, _≤_}
 use native.Mathlib.Nat.{add-zero, zero-add, mul-zero, mul-suc, one-mul}
@@ -10,11 +10,11 @@ use native.Mathlib.Omega.{arith}
 use lib.Dec.{ltb}
 use lib.ListN.{getD, length, length-append, List·getD-append}
 use lib.Seq.{getD-append-add}
-use borrow.Author.Tests.{lt-ltb, ltb-true, ltb-false}
-use Rattle.meaning.specs.Table.{below}
+use borrow.Author.Tests.{lt-ltb}
 use Rattle.meaning.specs.Store.{Store, idle}
 use Rattle.store.specs.Layout.{tAt, nAt, pAt, dAt, lockAt, ownerAt, threadsAt, threadWords, mapAt, locksAt, blocksAt, blockWords, areaWords, size}
 use Rattle.store.specs.Area.{Bytes, word, bytes, rows, threadRow, blockRow, words, encode, threadFrom, column, storeOf, decode}
+use Rattle.store.proofs.Decode.{below-is}
 use Rattle.store.proofs.Words.{span, bytes-span, word-bytes, length-bytes}
 use Rattle.store.proofs.Sound.{Fitted}
 
@@ -108,14 +108,6 @@ pub record InRange (s : Store) : Type 0 where
   pub wear : (k : ℕ) → s .blocks ≤ k → 0 ≡ s .wear k
   pub own : (k : ℕ) → s .blocks ≤ k → 0 ≡ s .own k
 
--- a table is another below the size, and so is the rest
-below-is : {A : Type 0} (z : A) (n : ℕ) (f g : ℕ → A) → ((k : ℕ) → k < n → f k ≡ g k) → ((k : ℕ) → n ≤ k → z ≡ g k) → below z n f ≡ g
-below-is z n f g h o = fun-ext λ k. by-size k (ltb k n) refl
-  where
-    by-size : (k : ℕ) (b : Bool) → ltb k n ≡ b → cond b (f k) z ≡ g k
-    by-size k true e = h k (ltb-true k n e)
-    by-size k false e = o k (ltb-false k n e)
-
 module _ (width : ℕ) (row : ℕ → List ℕ) (even : (k : ℕ) → length (row k) ≡ width) where
   length-rows : (count k : ℕ) → length (rows k count row) ≡ width * count
   length-rows zero k = sym (mul-zero width)
@@ -138,87 +130,79 @@ module _ (width : ℕ) (row : ℕ → List ℕ) (even : (k : ℕ) → length (ro
   getD-row : (count j e : ℕ) → j < count → e < width → getD (rows 0 count row) (width * j + e) 0 ≡ getD (row j) e 0
   getD-row count j e h l = getD-rows count 0 j e h l ∙ ap (λ n. getD (row n) e 0) (zero-add j)
 
--- an entry of the second of two lists
-getD-second : (x y : List ℕ) (i k : ℕ) → length x ≡ i → getD (x ++ y) (i + k) 0 ≡ getD y k 0
-getD-second x y i k e = rw (← e) (getD-append-add x y k 0)
+-- the rows of a table, of one width, and the words that come before them
+record Part : Type 0 where
+  before : List ℕ
+  at : ℕ
+  width : ℕ
+  count : ℕ
+  row : ℕ → List ℕ
+  long : length before ≡ at
+  even : (k : ℕ) → length (row k) ≡ width
+
+abbrev whole : Part → List ℕ
+whole t = t .before ++ rows 0 (t .count) (t .row)
+
+module _ (t : Part) where
+  length-whole : length (whole t) ≡ t .at + t .width * t .count
+  length-whole =
+      length-append (t .before) (rows 0 (t .count) (t .row))
+      ∙ ap₂ _+_ (t .long) (length-rows (t .width) (t .row) (t .even) (t .count) 0)
+
+  word-before : (i : ℕ) → i < t .at → getD (whole t) i 0 ≡ getD (t .before) i 0
+  word-before i h = List·getD-append (t .before) (rows 0 (t .count) (t .row)) 0 i (omega (arith, t .long))
+
+  word-within : (k e : ℕ) → k < t .count → e < t .width → getD (whole t) (t .at + (t .width * k + e)) 0 ≡ getD (t .row k) e 0
+  word-within k e h l =
+      ap (λ i. getD (whole t) (i + (t .width * k + e)) 0) (sym (t .long))
+      ∙ getD-append-add (t .before) (rows 0 (t .count) (t .row)) (t .width * k + e) 0
+      ∙ getD-row (t .width) (t .row) (t .even) (t .count) k e h l
 
 module _ (s : Store) where
   abbrev heads : List ℕ
   heads = s .threads ∷ s .numbers ∷ s .blocks ∷ s .distance ∷ s .lock ∷ s .owner ∷ []
 
-  abbrev threadPart : List ℕ
-  threadPart = rows 0 (s .threads) (λ t. threadRow (s .thread t))
+  abbrev threadPart : Part
+  threadPart = record { before = heads; at = threadsAt; width = threadWords; count = s .threads; row = λ t. threadRow (s .thread t); long = refl; even = λ k. refl }
 
-  abbrev mapPart : List ℕ
-  mapPart = rows 0 (s .numbers) (λ n. s .map n ∷ [])
+  abbrev mapPart : Part
+  mapPart = record { before = whole threadPart; at = mapAt (s .threads); width = 1; count = s .numbers; row = λ n. s .map n ∷ []; long = length-whole threadPart; even = λ k. refl }
 
-  abbrev locksPart : List ℕ
-  locksPart = rows 0 (s .numbers) (λ n. s .locks n ∷ [])
+  abbrev locksPart : Part
+  locksPart = record { before = whole mapPart; at = locksAt (s .threads) (s .numbers); width = 1; count = s .numbers; row = λ n. s .locks n ∷ []; long = omega (arith, length-whole mapPart); even = λ k. refl }
 
-  abbrev blocksPart : List ℕ
-  blocksPart = rows 0 (s .blocks) (blockRow s)
-
-  length-threads : length (heads ++ threadPart) ≡ mapAt (s .threads)
-  length-threads = length-append heads threadPart ∙ omega (arith, length-rows threadWords (λ t. threadRow (s .thread t)) (λ k. refl) (s .threads) 0)
-
-  length-map : length (heads ++ threadPart ++ mapPart) ≡ locksAt (s .threads) (s .numbers)
-  length-map =
-      length-append (heads ++ threadPart) mapPart
-      ∙ omega (arith, length-threads, length-rows 1 (λ n. s .map n ∷ []) (λ k. refl) (s .numbers) 0)
-
-  length-locks : length (heads ++ threadPart ++ mapPart ++ locksPart) ≡ blocksAt (s .threads) (s .numbers)
-  length-locks =
-      length-append (heads ++ threadPart ++ mapPart) locksPart
-      ∙ omega (arith, length-map, length-rows 1 (λ n. s .locks n ∷ []) (λ k. refl) (s .numbers) 0)
+  abbrev blocksPart : Part
+  blocksPart = record { before = whole locksPart; at = blocksAt (s .threads) (s .numbers); width = blockWords; count = s .blocks; row = blockRow s; long = omega (arith, length-whole locksPart); even = λ k. refl }
 
   pub length-words : length (words s) ≡ areaWords (s .threads) (s .numbers) (s .blocks)
-  length-words =
-      length-append (heads ++ threadPart ++ mapPart ++ locksPart) blocksPart
-      ∙ omega (arith, length-locks, length-rows blockWords (blockRow s) (λ k. refl) (s .blocks) 0)
+  length-words = length-whole blocksPart
 
   pub length-encode : length (encode s) ≡ size (s .threads) (s .numbers) (s .blocks)
   length-encode = length-bytes (words s) ∙ ap (λ n. 4 * n) length-words
 
-  -- what stands before the blocks, before the locks, before the map
-  before-blocks : (i : ℕ) → i < blocksAt (s .threads) (s .numbers) → getD (words s) i 0 ≡ getD (heads ++ threadPart ++ mapPart ++ locksPart) i 0
-  before-blocks i h =
-      List·getD-append (heads ++ threadPart ++ mapPart ++ locksPart) blocksPart 0 i (omega (arith, length-locks))
-
-  before-locks : (i : ℕ) → i < locksAt (s .threads) (s .numbers) → getD (words s) i 0 ≡ getD (heads ++ threadPart ++ mapPart) i 0
-  before-locks i h =
-      before-blocks i (omega arith) ∙ List·getD-append (heads ++ threadPart ++ mapPart) locksPart 0 i (omega (arith, length-map))
-
-  before-map : (i : ℕ) → i < mapAt (s .threads) → getD (words s) i 0 ≡ getD (heads ++ threadPart) i 0
-  before-map i h =
-      before-locks i (omega arith) ∙ List·getD-append (heads ++ threadPart) mapPart 0 i (omega (arith, length-threads))
-
   -- what stands at a place of each part
   word-block : (k e : ℕ) → k < s .blocks → e < blockWords → getD (words s) (blocksAt (s .threads) (s .numbers) + (blockWords * k + e)) 0 ≡ getD (blockRow s k) e 0
-  word-block k e h l =
-      getD-second (heads ++ threadPart ++ mapPart ++ locksPart) blocksPart _ _ length-locks
-      ∙ getD-row blockWords (blockRow s) (λ j. refl) (s .blocks) k e h l
+  word-block = word-within blocksPart
 
   word-locks : (k : ℕ) → k < s .numbers → getD (words s) (locksAt (s .threads) (s .numbers) + 1 * k) 0 ≡ s .locks k
   word-locks k h =
-      let e : locksAt (s .threads) (s .numbers) + 1 * k ≡ locksAt (s .threads) (s .numbers) + (1 * k + 0) = omega arith in
-      ap (λ i. getD (words s) i 0) e
-      ∙ before-blocks (locksAt (s .threads) (s .numbers) + (1 * k + 0)) (omega arith)
-      ∙ getD-second (heads ++ threadPart ++ mapPart) locksPart _ _ length-map
-      ∙ getD-row 1 (λ n. s .locks n ∷ []) (λ j. refl) (s .numbers) k 0 h (omega arith)
+      ap (λ i. getD (words s) (locksAt (s .threads) (s .numbers) + i) 0) (sym (add-zero (1 * k)))
+      ∙ word-before blocksPart (locksAt (s .threads) (s .numbers) + (1 * k + 0)) (omega arith)
+      ∙ word-within locksPart k 0 h (omega arith)
 
   word-map : (k : ℕ) → k < s .numbers → getD (words s) (mapAt (s .threads) + 1 * k) 0 ≡ s .map k
   word-map k h =
-      let e : mapAt (s .threads) + 1 * k ≡ mapAt (s .threads) + (1 * k + 0) = omega arith in
-      ap (λ i. getD (words s) i 0) e
-      ∙ before-locks (mapAt (s .threads) + (1 * k + 0)) (omega arith)
-      ∙ getD-second (heads ++ threadPart) mapPart _ _ length-threads
-      ∙ getD-row 1 (λ n. s .map n ∷ []) (λ j. refl) (s .numbers) k 0 h (omega arith)
+      ap (λ i. getD (words s) (mapAt (s .threads) + i) 0) (sym (add-zero (1 * k)))
+      ∙ word-before blocksPart (mapAt (s .threads) + (1 * k + 0)) (omega arith)
+      ∙ word-before locksPart (mapAt (s .threads) + (1 * k + 0)) (omega arith)
+      ∙ word-within mapPart k 0 h (omega arith)
 
   word-thread : (k e : ℕ) → k < s .threads → e < threadWords → getD (words s) (threadsAt + (threadWords * k + e)) 0 ≡ getD (threadRow (s .thread k)) e 0
   word-thread k e h l =
-      before-map (threadsAt + (threadWords * k + e)) (omega arith)
-      ∙ getD-second heads threadPart threadsAt _ refl
-      ∙ getD-row threadWords (λ t. threadRow (s .thread t)) (λ j. refl) (s .threads) k e h l
+      word-before blocksPart (threadsAt + (threadWords * k + e)) (omega arith)
+      ∙ word-before locksPart (threadsAt + (threadWords * k + e)) (omega arith)
+      ∙ word-before mapPart (threadsAt + (threadWords * k + e)) (omega arith)
+      ∙ word-within threadPart k e h l
 
 abbrev wordsOf : Store → ℕ → ℕ
 wordsOf s k = getD (words s) k 0

@@ -1,14 +1,14 @@
 -- What decoding a live area gives: its sizes are those of `Live`, and a test of all entries of a table is a test of the area's words.
--- Assumes nothing.
-use mathlib.Core.Path.{_≡_, _∙_, sym, ap}
+-- And when a table of so many entries is another one. Assumes nothing.
+use mathlib.Core.Path.{_≡_, _∙_, sym, ap, fun-ext}
 use mathlib.Core.Bool.{Bool, _&&_}
 use mathlib.Core.List.{List}
-use Prim.Native.Nat.{ℕ, _+_, _*_}
+use Prim.Native.Nat.{ℕ, _+_, _*_, _<_, _≤_}
 use lib.Dec.{leb, ltb}
-use borrow.Author.Tests.{lt-ltb}
-use Rattle.meaning.specs.declared.Thread.{Thread}
+use borrow.Author.Tests.{lt-ltb, ltb-true, ltb-false}
 use Rattle.meaning.specs.Table.{below, every}
 use Rattle.meaning.specs.Store.{idle}
+use Rattle.meaning.proofs.Words.{either-way}
 use Rattle.store.specs.Layout.{lockAt, ownerAt, threadsAt, threadWords, mapAt, locksAt, blocksAt, blockWords}
 use Rattle.store.specs.Area.{word, threadFrom, storeOf, decode, soundThread, inBounds}
 use Rattle.store.specs.Live.{Live}
@@ -16,6 +16,11 @@ use Rattle.store.proofs.Every.{every-cong}
 
 pub decode-live : {a : List ℕ} {t n p : ℕ} → Live a t n p → decode a ≡ storeOf (word a) t n p
 decode-live {a} v = λ i. storeOf (word a) (v .threads i) (v .numbers i) (v .blocks i)
+
+-- a table is another below the size, and so is the rest
+pub below-is : {A : Type 0} (z : A) (n : ℕ) (f g : ℕ → A) → ((k : ℕ) → k < n → f k ≡ g k) → ((k : ℕ) → n ≤ k → z ≡ g k) → below z n f ≡ g
+below-is z n f g h o =
+    fun-ext λ k. either-way (ltb k n) (λ e. rw e (h k (ltb-true k n e))) (λ e. rw e (o k (ltb-false k n e)))
 
 -- a test of a table's entries below its size is one of what the table is made of
 pub every-below : {A : Type 0} (z : A) (n : ℕ) (f : ℕ → A) (test : A → Bool) → every n (λ k. test (f k)) ≡ every n (λ k. test (below z n f k))

@@ -5,5 +5,6 @@ pub mod Words
 pub mod Decode
 pub mod Sound
 pub mod Codec
+pub mod Range
 pub mod Tables
 pub mod Filling

@@ -1,6 +1,6 @@
 -- What the tests of sizes, tables and thread records say as facts, both ways; and so: an area is well formed exactly where its length
 -- is that of its sizes and the store that it holds is sound. Assumes nothing.
-use mathlib.Core.Path.{_≡_, refl, _∙_, sym, ap}
+use mathlib.Core.Path.{_≡_, refl, _∙_, sym}
 use mathlib.Core.Bool.{Bool, true, false, _&&_, and-false}
 use mathlib.Core.List.{List}
 use mathlib.Core.Logic.{_⊎_, inl, inr, _↔_}
@@ -15,19 +15,12 @@ use Rattle.meaning.specs.Table.{every}
 use Rattle.meaning.specs.Limits.{least, mostThreads, mostNumbers, mostBlocks, mostDistance, within, inLimits}
 use Rattle.meaning.specs.Store.{Store, idle}
 use Rattle.meaning.specs.Programs.{LEVEL, lastLine}
+use Rattle.meaning.proofs.Words.{and-left, and-right, within-true}
 use Rattle.store.specs.Layout.{tAt, nAt, pAt, dAt, size}
 use Rattle.store.specs.Live.{Live}
 use Rattle.store.specs.Area.{word, decode, zeros, working, soundThread, inBounds, sound, fitted, wellFormed}
 
 -- ---- tests joined
-
-pub and-left : (a b : Bool) → a && b ≡ true → a ≡ true
-and-left true b e = refl
-and-left false b e = e
-
-pub and-right : (a b : Bool) → a && b ≡ true → b ≡ true
-and-right true b e = e
-and-right false b e = absurd (mathlib.Core.Bool.false≢true e)
 
 pub and-both : {a b : Bool} → a ≡ true → b ≡ true → a && b ≡ true
 and-both p q = rw (p, q)
@@ -73,24 +66,19 @@ pub record Sizes (t n p d : ℕ) : Type 0 where
   pub d-low : least ≤ d
   pub d-high : d ≤ mostDistance
 
-within-true : (low high x : ℕ) → within low high x ≡ true → (low ≤ x) × (x ≤ high)
-within-true low high x e =
-    (leb-true low x (and-left (leb low x) (leb x high) e), leb-true x high (and-right (leb low x) (leb x high) e))
-
 true-within : (low high x : ℕ) → low ≤ x → x ≤ high → within low high x ≡ true
 true-within low high x l h = and-both (le-leb low x l) (le-leb x high h)
 
 pub limits-sizes : (t n p d : ℕ) → inLimits t n p d ≡ true → Sizes t n p d
 limits-sizes t n p d e =
-    let wt = within least mostThreads t in
-    let wn = within least mostNumbers n in
-    let wp = within (n + 1) mostBlocks p in
-    let wd = within least mostDistance d in
-    let tn = and-left (wt && wn) wp (and-left (wt && wn && wp) wd e) in
-    let ft = within-true least mostThreads t (and-left wt wn tn) in
-    let fn = within-true least mostNumbers n (and-right wt wn tn) in
-    let fp = within-true (n + 1) mostBlocks p (and-right (wt && wn) wp (and-left (wt && wn && wp) wd e)) in
-    let fd = within-true least mostDistance d (and-right (wt && wn && wp) wd e) in
+    let z =
+    and-seven true true true (within least mostThreads t) (within least mostNumbers n) (within (n + 1) mostBlocks p)
+    (within least mostDistance d) e
+    in
+    let ft = within-true least mostThreads t (z .3) in
+    let fn = within-true least mostNumbers n (z .4) in
+    let fp = within-true (n + 1) mostBlocks p (z .5) in
+    let fd = within-true least mostDistance d (z .6) in
     record {
       t-low = ft .0;
       t-high = ft .1;

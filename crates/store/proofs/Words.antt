@@ -1,8 +1,7 @@
--- Words of bytes: a word of what was put, the word of an area's bytes, the bytes of an area's words. Assumes nothing.
+-- Words of bytes: a word of what was put, the word of an area's bytes, the bytes of an area's words; words put one after the other.
+-- Assumes nothing.
 use mathlib.Core.Path.{_≡_, refl, _∙_, sym, ap, fun-ext}
-use mathlib.Core.Bool.{Bool, true, false, cond}
-use mathlib.Core.List.{List, [], _∷_}
-use mathlib.Core.Logic.{_⊎_, inl, inr}
+use mathlib.Core.List.{List, [], _∷_, _++_}
 use Prim.Native.Nat.{ℕ, zero, suc, _+_, _*_, _/_, _%_, _<_, _≤_}
 use native.Mathlib.Nat.{add-zero, div-div-eq-div-mul}
 use native.Mathlib.Decide.{decLt}
@@ -11,7 +10,9 @@ use lib.Dec.{eqb}
 use lib.ListN.{getD, set, length, drop, length-set, drop-of-length-le}
 use lib.Seq.{getD-set-same, getD-set-other, set-out, drop-cons}
 use borrow.Author.Tests.{eqb-true, eqb-false}
+use Rattle.meaning.specs.Limits.{mostWord}
 use Rattle.meaning.specs.Table.{upd}
+use Rattle.meaning.proofs.Words.{either-way, upd-same, upd-other}
 use Rattle.store.specs.Area.{Bytes, word, bytes, putWord}
 use Rattle.store.specs.Live.{Within}
 
@@ -59,17 +60,12 @@ abbrev set-four : List ℕ → ℕ → ℕ → ℕ → ℕ → ℕ → List ℕ
 set-four l i a b c d = set (set (set (set l i a) (i + 1) b) (i + 2) c) (i + 3) d
 
 module _ (l : List ℕ) (i a b c d : ℕ) where
-  getD-four-other : (j : ℕ) → (j < i) ⊎ (i + 4 ≤ j) → getD (set-four l i a b c d) j 0 ≡ getD l j 0
-  getD-four-other j (inl h) =
-      getD-set-other (set (set (set l i a) (i + 1) b) (i + 2) c) (i + 3) j d 0 (λ e. omega arith)
-      ∙ getD-set-other (set (set l i a) (i + 1) b) (i + 2) j c 0 (λ e. omega arith)
-      ∙ getD-set-other (set l i a) (i + 1) j b 0 (λ e. omega arith)
-      ∙ getD-set-other l i j a 0 (λ e. omega arith)
-  getD-four-other j (inr h) =
-      getD-set-other (set (set (set l i a) (i + 1) b) (i + 2) c) (i + 3) j d 0 (λ e. omega arith)
-      ∙ getD-set-other (set (set l i a) (i + 1) b) (i + 2) j c 0 (λ e. omega arith)
-      ∙ getD-set-other (set l i a) (i + 1) j b 0 (λ e. omega arith)
-      ∙ getD-set-other l i j a 0 (λ e. omega arith)
+  getD-four-other : (j : ℕ) → (i ≤ j → j < i + 4 → ⊥) → getD (set-four l i a b c d) j 0 ≡ getD l j 0
+  getD-four-other j h =
+      getD-set-other (set (set (set l i a) (i + 1) b) (i + 2) c) (i + 3) j d 0 (λ e. h (omega arith) (omega arith))
+      ∙ getD-set-other (set (set l i a) (i + 1) b) (i + 2) j c 0 (λ e. h (omega arith) (omega arith))
+      ∙ getD-set-other (set l i a) (i + 1) j b 0 (λ e. h (omega arith) (omega arith))
+      ∙ getD-set-other l i j a 0 (λ e. h (omega arith) (omega arith))
 
   module _ (h : i + 4 ≤ length l) where
     getD-four-3 : getD (set-four l i a b c d) (i + 3) 0 ≡ d
@@ -107,24 +103,17 @@ module _ (a : List ℕ) (k v : ℕ) where
       λ i.
       joined (rw add-zero at (kept 0 (omega arith)) i) (kept 1 (omega arith) i) (kept 2 (omega arith) i) (kept 3 (omega arith) i)
     where
-      apart : (e : ℕ) → e < 4 → (4 * j + e < 4 * k) ⊎ (4 * k + 4 ≤ 4 * j + e)
-      apart e l = by-order (decLt j k)
-        where
-          by-order : Dec (j < k) → (4 * j + e < 4 * k) ⊎ (4 * k + 4 ≤ 4 * j + e)
-          by-order (yes q) = inl (omega arith)
-          by-order (no q) = inr (omega arith)
-
       kept : (e : ℕ) → e < 4 → getD (putWord a k v) (4 * j + e) 0 ≡ getD a (4 * j + e) 0
       kept e l =
-          getD-four-other a (4 * k) (v % 256) (v / 256 % 256) (v / 65536 % 256) (v / 16777216 % 256) (4 * j + e) (apart e l)
+          getD-four-other a (4 * k) (v % 256) (v / 256 % 256) (v / 65536 % 256) (v / 16777216 % 256) (4 * j + e)
+          (λ x y. h (omega arith))
 
 -- the words of an area with a word put, as a table
 pub word-put : (a : List ℕ) (k v : ℕ) → Within a k → v < 4294967296 → word (putWord a k v) ≡ upd (word a) k v
-word-put a k v w h = fun-ext λ j. by-place j (eqb k j) refl
-  where
-    by-place : (j : ℕ) (b : Bool) → eqb k j ≡ b → word (putWord a k v) j ≡ cond b v (word a j)
-    by-place j true e = rw (← eqb-true k j e) (word-put-same a k v w h)
-    by-place j false e = word-put-other a k v j (eqb-false k j e)
+word-put a k v w h =
+    fun-ext λ j.
+    either-way (eqb k j) (λ e. rw e (ap (word (putWord a k v)) (sym (eqb-true k j e)) ∙ word-put-same a k v w h))
+    (λ e. rw e (word-put-other a k v j (eqb-false k j e)))
 
 -- ---- the bytes of words
 
@@ -196,15 +185,13 @@ bytes-span a h (suc count) k l =
 -- ---- bytes stay bytes
 
 getD-set-byte : (a : List ℕ) (i v : ℕ) → Bytes a → v < 256 → Bytes (set a i v)
-getD-set-byte a i v h l j = by-place (eqb j i) refl
+getD-set-byte a i v h l j =
+    either-way (eqb j i) (λ e. rw (eqb-true j i e) (by-length (decLt i (length a))))
+    (λ e. rw (getD-set-other a i j v 0 (eqb-false j i e)) (h j))
   where
-    by-place : (b : Bool) → eqb j i ≡ b → getD (set a i v) j 0 < 256
-    by-place true e = rw (eqb-true j i e) (by-length (decLt i (length a)))
-      where
-        by-length : Dec (i < length a) → getD (set a i v) i 0 < 256
-        by-length (yes q) = rw (getD-set-same a i v 0 q) l
-        by-length (no q) = rw (set-out a i v (omega arith)) (h i)
-    by-place false e = rw (getD-set-other a i j v 0 (eqb-false j i e)) (h j)
+    by-length : Dec (i < length a) → getD (set a i v) i 0 < 256
+    by-length (yes q) = rw (getD-set-same a i v 0 q) l
+    by-length (no q) = rw (set-out a i v (omega arith)) (h i)
 
 pub bytes-put : (a : List ℕ) (k v : ℕ) → Bytes a → Bytes (putWord a k v)
 bytes-put a k v h =
@@ -221,3 +208,71 @@ bytes-put a k v h =
 
     a₃ : List ℕ
     a₃ = set a₂ (4 * k + 2) (v / 65536 % 256)
+
+pub bytes-bytes : (ws : List ℕ) → Bytes (bytes ws)
+bytes-bytes [] i = omega arith
+bytes-bytes (v ∷ vs) zero = omega arith
+bytes-bytes (v ∷ vs) (suc zero) = omega arith
+bytes-bytes (v ∷ vs) (suc (suc zero)) = omega arith
+bytes-bytes (v ∷ vs) (suc (suc (suc zero))) = omega arith
+bytes-bytes (v ∷ vs) (suc (suc (suc (suc i)))) = bytes-bytes vs i
+
+pub word-low : (a : List ℕ) → Bytes a → (k : ℕ) → word a k ≤ mostWord
+word-low a h k = omega (arith, h (4 * k), h (4 * k + 1), h (4 * k + 2), h (4 * k + 3))
+
+-- ---- several words put, one after the other
+
+-- every element of a list is a word
+abbrev pub OfWords : List ℕ → Type 0
+OfWords [] = Unit {0}
+OfWords (v ∷ l) = (v ≤ mostWord) × OfWords l
+
+-- the area with its words i + e, i + e + 1, .. from a list; and a table likewise
+abbrev pub putFrom : List ℕ → ℕ → ℕ → List ℕ → List ℕ
+putFrom a i e [] = a
+putFrom a i e (v ∷ vs) = putFrom (putWord a (i + e) v) i (suc e) vs
+
+abbrev pub updFrom : (ℕ → ℕ) → ℕ → ℕ → List ℕ → ℕ → ℕ
+updFrom at i e [] = at
+updFrom at i e (v ∷ vs) = updFrom (upd at (i + e) v) i (suc e) vs
+
+pub length-putFrom : (a : List ℕ) (i e : ℕ) (vs : List ℕ) → length (putFrom a i e vs) ≡ length a
+length-putFrom a i e [] = refl
+length-putFrom a i e (v ∷ vs) = length-putFrom (putWord a (i + e) v) i (suc e) vs ∙ length-putWord a (i + e) v
+
+pub bytes-putFrom : (a : List ℕ) (i e : ℕ) (vs : List ℕ) → Bytes a → Bytes (putFrom a i e vs)
+bytes-putFrom a i e [] h = h
+bytes-putFrom a i e (v ∷ vs) h = bytes-putFrom (putWord a (i + e) v) i (suc e) vs (bytes-put a (i + e) v h)
+
+pub word-putFrom :
+    (a : List ℕ) (i e : ℕ) (vs : List ℕ) → 4 * (i + e + length vs) ≤ length a → OfWords vs →
+    word (putFrom a i e vs) ≡ updFrom (word a) i e vs
+word-putFrom a i e [] fit all = refl
+word-putFrom a i e (v ∷ vs) fit all =
+    word-putFrom (putWord a (i + e) v) i (suc e) vs (omega (arith, length-putWord a (i + e) v)) (all .1)
+    ∙ ap (λ f. updFrom f i (suc e) vs) (word-put a (i + e) v (omega arith) (omega arith))
+
+pub updFrom-other :
+    (at : ℕ → ℕ) (i e : ℕ) (vs : List ℕ) (j : ℕ) → (i + e ≤ j → j < i + e + length vs → ⊥) → updFrom at i e vs j ≡ at j
+updFrom-other at i e [] j h = refl
+updFrom-other at i e (v ∷ vs) j h =
+    updFrom-other (upd at (i + e) v) i (suc e) vs j (λ l u. h (omega arith) (omega arith))
+    ∙ upd-other at (i + e) j v (λ q. h (omega arith) (omega arith))
+
+pub updFrom-at : (at : ℕ → ℕ) (i e : ℕ) (vs : List ℕ) (k : ℕ) → k < length vs → updFrom at i e vs (i + (e + k)) ≡ getD vs k 0
+updFrom-at at i e [] k h = absurd (omega arith)
+updFrom-at at i e (v ∷ vs) zero h =
+    rw (add-zero e)
+    (updFrom-other (upd at (i + e) v) i (suc e) vs (i + e) (λ l u. omega arith) ∙ upd-same at (i + e) v)
+updFrom-at at i e (v ∷ vs) (suc k) h =
+    let q : i + (e + suc k) ≡ i + (suc e + k) = omega arith in
+    rw q (updFrom-at (upd at (i + e) v) i (suc e) vs k (omega arith))
+
+pub low-at : (l : List ℕ) → OfWords l → (k : ℕ) → getD l k 0 < 4294967296
+low-at [] all k = omega arith
+low-at (v ∷ l) all zero = omega arith
+low-at (v ∷ l) all (suc k) = low-at l (all .1) k
+
+pub low-append : (l m : List ℕ) → OfWords l → OfWords m → OfWords (l ++ m)
+low-append [] m x y = y
+low-append (v ∷ l) m x y = (x .0, low-append l m (x .1) y)

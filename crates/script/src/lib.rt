@@ -12,6 +12,7 @@ ghost use Rattle.script.specs.Syntax.{digits, bounded, number, field, fo
 ghost use Rattle.script.specs.Printing.{figures, mostPrinted, printed, Wrote};
 ghost use Rattle.script.specs.Output.{replied, formatNew, heard, answers, output, fitting};
 ghost use Rattle.script.specs.Places.{seen, cutAt, Inside, largest, Held, turned, Left, Ready};
+use store::Store;
 
 // ---- the language
 
@@ -38,11 +39,11 @@ const LONG: u32 = 20;
 // The most bytes of input.
 pub const MOST_INPUT: usize = 65536;
 
-// Room for any output: six bytes for each byte of input, and one line more (`mostOutput`).
-pub const ROOM: usize = 393238;
+// The most bytes of a printed line: a number and a value of ten digits each, a blank and a newline.
+const MOST_PRINTED: usize = 22;
 
-// The length of the longest area, with all sizes at their limits.
-const LARGEST: usize = 10712;
+// Room for any output: six bytes for each byte of input, since a line that is answered has four, and one line more.
+pub const ROOM: usize = 6 * MOST_INPUT + MOST_PRINTED;
 
 // Number and value come back together as number times this plus value.
 const PACK: u64 = 4294967296;
@@ -283,7 +284,7 @@ fn wanted(t: u32, n: u32, p: u32) -> usize
     let numbers = n as usize;
     let map_at = store::THREADS_AT + store::THREAD_WORDS * t as usize;
     let length = 4 * (map_at + numbers + numbers + store::BLOCK_WORDS * p as usize);
-    if length <= LARGEST {
+    if length <= Store::LONGEST {
         return length;
     }
     0
@@ -376,6 +377,6 @@ pub fn run(input: &[u8], out: &mut [u8]) -> usize
     if MOST_INPUT < input.len() {
         return put_reply(out, 0, LONG, 0);
     }
-    let mut area = [0u8; LARGEST];
+    let mut area = [0u8; Store::LONGEST];
     run_lines(input, &mut area, out)
 }

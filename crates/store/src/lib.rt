@@ -48,6 +48,10 @@ impl Store {
 
     pub const BLOCK_CELLS: usize = BLOCK_WORDS * Store::MAX_P;
 
+    // The length of the longest area, in bytes.
+    pub const LONGEST: usize = 4
+        * (THREADS_AT + Store::THREAD_CELLS + 2 * Store::MAX_N + Store::BLOCK_CELLS);
+
     // All zeros.
     pub fn fresh() -> Store
         ensures { λ r. ⌜ r ≡ zeroFilled ⌝ }

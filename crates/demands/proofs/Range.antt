@@ -175,7 +175,7 @@ module _ (s : Store) (R : Ranged s) (t : ℕ) (below : t < s .threads) (r : Thre
   from-below to (At f) b x = either-way (ltb (s .wear to) (s .wear f + s .distance)) (λ y. rw y b) (λ y. rw y x)
 
   choosing-safe : Line (r .line + 1) → (to from : Found) → Among (s .blocks) to → Among (s .blocks) from →
-      Safe s (choosing s r to from)
+      Safe s (choosing (s .wear) (s .distance) r to from)
   choosing-safe l Nobody from x y = tt
   choosing-safe l (At to) from x y = let z = from-below to from x y in search (arith, inr)
 

@@ -56,9 +56,9 @@ module _ (n p : ℕ) where
   at-own : (m w : ℕ) → m < p → Places n p (onOwn m w)
   at-own m w h = record { map = tt; locks = tt; header = tt; content = tt; wear = tt; own = h }
 
-  at-choice : (s : Store) (r : Thread) (to from : Found) → Placed n p (choosing s r to from)
-  at-choice s r Nobody from = tt
-  at-choice s r (At to) from = nowhere
+  at-choice : (wear : ℕ → ℕ) (distance : ℕ) (r : Thread) (to from : Found) → Placed n p (choosing wear distance r to from)
+  at-choice wear distance r Nobody from = tt
+  at-choice wear distance r (At to) from = nowhere
 
   module _ (s : Store) (t : ℕ) (r : Thread) (hn : r .n < n) (hp : r .p < p) (hq : r .q < p) where
     pub perform-placed : (act : Act) → Placed n p (perform act s t r)
@@ -86,7 +86,7 @@ module _ (n p : ℕ) where
         by-test (heldBy t (s .owner))
         (λ y.
         rw y
-        (at-choice s r (toBlock (s .header) (s .wear) (s .blocks)) (leastWorn (s .header) (s .wear) (s .blocks))))
+        (at-choice (s .wear) (s .distance) r (toBlock (s .header) (s .wear) (s .blocks)) (leastWorn (s .header) (s .wear) (s .blocks))))
         (λ y. rw y tt)
     perform-placed ReadHeader = by-test (heldBy t (s .owner)) (λ y. rw y (nowhere)) (λ y. rw y tt)
     perform-placed WriteHeaderN = by-test (heads s t (r .p)) (λ y. rw y (at-header (r .p) (naming (r .n)) hp)) (λ y. rw y tt)

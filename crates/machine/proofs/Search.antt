@@ -18,8 +18,8 @@ use Rattle.meaning.specs.Holding.{free}
 use Rattle.meaning.specs.Store.{Store}
 use Rattle.meaning.specs.declared.Effect.{Effect}
 use Rattle.meaning.specs.declared.Verdict.{Verdict}
-use Rattle.meaning.specs.Step.{choosing, next, setP, setQ, nothing}
-use Rattle.machine.specs.Judging.{placeOf, weightOf, soughtBy, chosenBy, chosenOf, Searches}
+use Rattle.meaning.specs.Step.{next, setP, setQ, nothing}
+use Rattle.machine.specs.Judging.{placeOf, weightOf, soughtBy, chosenOf, Searches}
 
 -- ---- the lowest free block
 
@@ -173,15 +173,8 @@ pub chosen-found :
 chosen-found header wear blocks distance q r t i f d o n v =
     rw (sym t ∙ i) (v ∙ ap₂ next (o ∙ ap (λ x. setQ q (setP x r)) (d ∙ ap (fromBlock wear distance q) f)) n)
 
--- it looks at wear and distance alone
-chosen-choosing : (s : Store) (r : Thread) (to from : Found) → chosenBy (s .wear) (s .distance) r to from ≡ choosing s r to from
-chosen-choosing s r Nobody from = refl
-chosen-choosing s r (At to) from = refl
-
+-- it is that of the store that the tables and numbers are of
 pub chosen-seen :
     {s : Store} {header wear : ℕ → ℕ} {blocks distance : ℕ} (r : Thread) {v : Verdict} → Searches s header wear blocks distance →
-    v ≡ chosenOf header wear blocks distance r →
-    v ≡ choosing s r (toBlock (s .header) (s .wear) (s .blocks)) (leastWorn (s .header) (s .wear) (s .blocks))
-chosen-seen {s} r g e =
-    e ∙ (λ i. chosenOf (g .header i) (g .wear i) (g .blocks i) (g .distance i) r)
-    ∙ chosen-choosing s r (toBlock (s .header) (s .wear) (s .blocks)) (leastWorn (s .header) (s .wear) (s .blocks))
+    v ≡ chosenOf header wear blocks distance r → v ≡ chosenOf (s .header) (s .wear) (s .blocks) (s .distance) r
+chosen-seen r g e = e ∙ (λ i. chosenOf (g .header i) (g .wear i) (g .blocks i) (g .distance i) r)

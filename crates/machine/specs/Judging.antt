@@ -11,12 +11,11 @@ use Rattle.meaning.specs.Limits.{mostThreads, mostNumbers, mostBlocks, mostWord
 use Rattle.meaning.specs.Store.{Store}
 use Rattle.meaning.specs.Programs.{LEVEL, lastLine}
 use Rattle.meaning.specs.declared.Verdict.{Verdict}
-use Rattle.meaning.specs.declared.Verdict.the-variants.{Fault}
 use Rattle.meaning.specs.declared.Reg.{Reg}
 use Rattle.meaning.specs.declared.Reg.the-variants.{P, Q}
 use Rattle.meaning.specs.Holding.{free}
-use Rattle.meaning.specs.Choosing.{lowestFree, toBlock, leastWorn, fromBlock}
-use Rattle.meaning.specs.Step.{need, next, setP, setQ, nothing}
+use Rattle.meaning.specs.Choosing.{lowestFree, toBlock, leastWorn}
+use Rattle.meaning.specs.Step.{need, next, setP, choosing, nothing}
 use Rattle.store.specs.Live.{headers, contents, wears, owners}
 use Rattle.machine.specs.declared.Near.{Near}
 
@@ -36,12 +35,8 @@ soughtBy P header wear blocks = leastWorn header wear blocks
 soughtBy Q header wear blocks = toBlock header wear blocks
 
 -- L3's verdict where the headers are owned, of the tables and numbers that it looks at
-abbrev pub chosenBy : (ℕ → ℕ) → ℕ → Thread → Found → Found → Verdict
-chosenBy wear distance r Nobody from = Fault
-chosenBy wear distance r (At to) from = next (setQ to (setP (fromBlock wear distance to from) r)) nothing
-
 abbrev pub chosenOf : (ℕ → ℕ) → (ℕ → ℕ) → ℕ → ℕ → Thread → Verdict
-chosenOf header wear blocks distance r = chosenBy wear distance r (toBlock header wear blocks) (leastWorn header wear blocks)
+chosenOf header wear blocks distance r = choosing wear distance r (toBlock header wear blocks) (leastWorn header wear blocks)
 
 -- the words of store s that a line of record r may look at, the searches' tables left out
 pub record Sees (s : Store) (r : Thread) (x : Near) : Type 0 where

@@ -29,7 +29,7 @@ use Rattle.meaning.proofs.Invariant.{holdsH, holdsLock, ownsHeaders, ow
 use Rattle.meaning.proofs.Keeping.{everywhere}
 use Rattle.meaning.proofs.EveryLine.{idle-is}
 use Rattle.meaning.proofs.Demand1.{inv-call, no-fault}
-use Rattle.meaning.proofs.EitherOrder.{choosing-alike, Going, left-by, going-reply, going-moves, goes-unblocked}
+use Rattle.meaning.proofs.EitherOrder.{Going, left-by, going-reply, going-moves, goes-unblocked}
 use Rattle.meaning.proofs.Places.{went, over, Came, going-came, placed-going, placed-kept}
 use Rattle.meaning.proofs.Settles.{cleared, stepped, stepped-is, answering, Settles, rest, more}
 
@@ -89,8 +89,7 @@ module _ (s : Store) (t : ℕ) (r : Thread) where
   perform-alone (EmptyIfUnmapped l) b x = refl
   perform-alone (GoIfFree l) b x = refl
   perform-alone PickFree b x = rw (mine-held t (s .owner))
-  perform-alone Choose b x =
-      rw (mine-held t (s .owner), choosing-alike s (alone t s) r refl refl)
+  perform-alone Choose b x = rw (mine-held t (s .owner))
   perform-alone ReadHeader b x = rw (mine-held t (s .owner))
   perform-alone WriteHeaderN b x = rw (mine-held t (s .owner), mine-held t (s .own (r .p)))
   perform-alone WriteHeaderH b x = rw (mine-held t (s .owner), mine-held t (s .own (r .q)))

@@ -26,7 +26,7 @@ use Rattle.meaning.specs.Numbers.{WENT, FINISHED}
 use Rattle.meaning.specs.Store.{Store, idle}
 use Rattle.meaning.specs.Holding.{free, by, heldBy}
 use Rattle.meaning.specs.Programs.{actAt}
-use Rattle.meaning.specs.Step.{block, setC, nothing, next, need, touches, choosing, perform, verdict, become, put, apply}
+use Rattle.meaning.specs.Step.{block, setC, nothing, next, need, touches, perform, verdict, become, put, apply}
 use Rattle.meaning.specs.Call.{Reply, step, callStore, told, reply, isIdle}
 use Rattle.meaning.proofs.Words.{either-way, by-held, clash, and-left, and-right, or-way, by-other, held-once, held-not-free, upd-same, upd-other, upd-each}
 use Rattle.meaning.proofs.Called.{by-step}
@@ -90,11 +90,6 @@ need-alike true true x y e = e
 need-alike true false x y e = absurd (y refl)
 need-alike false true x y e = absurd (x refl)
 need-alike false false x y e = refl
-
-pub choosing-alike : (s s′ : Store) (r : Thread) → s′ .wear ≡ s .wear → s′ .distance ≡ s .distance → (to from : Found) →
-    choosing s′ r to from ≡ choosing s r to from
-choosing-alike s s′ r w d Nobody from = refl
-choosing-alike s s′ r w d (At to) from = rw (w, d)
 
 -- a free lock that t is not about to take stays free
 free-kept : (about : Type 0) (t : ℕ) (c : Word) (w : ℕ) → Changes c (Passes about t w) → (about → ⊥) → free w ≡ true →
@@ -177,12 +172,7 @@ module _ (s : Store) (I : Inv s) (t : ℕ) (r′ : Thread) (e : Effect) (M : Mov
   perform-alike PickFree l b x y = rw (owner-alike, header-alike l)
   perform-alike Choose l b x y =
       let wear = wear-alike (and-right (ownsHeaders (s .thread u)) _ l) in
-      rw (
-        choosing-alike s (apply s t r′ e) (s .thread u) wear refl,
-        owner-alike,
-        header-alike (and-left (ownsHeaders (s .thread u)) _ l),
-        wear,
-      )
+      rw (owner-alike, header-alike (and-left (ownsHeaders (s .thread u)) _ l), wear)
   perform-alike ReadHeader l b x y = rw (owner-alike, header-alike l)
   perform-alike WriteHeaderN l b x y = rw (owner-alike, own-alike (s .thread u .p))
   perform-alike WriteHeaderH l b x y = rw (owner-alike, own-alike (s .thread u .q))

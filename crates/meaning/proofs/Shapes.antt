@@ -108,9 +108,9 @@ Lands a r Fault = Unit {0}
 Lands a r (Go r′ e) = Onto a r r′ e
 Lands a r (Done v e) = a .ends? ≡ true
 
-choosing-lands : (s : Store) (r : Thread) (to from : Found) → Lands onwards r (choosing s r to from)
-choosing-lands s r Nobody from = tt
-choosing-lands s r (At to) from = search inl
+choosing-lands : (wear : ℕ → ℕ) (distance : ℕ) (r : Thread) (to from : Found) → Lands onwards r (choosing wear distance r to from)
+choosing-lands wear distance r Nobody from = tt
+choosing-lands wear distance r (At to) from = search inl
 
 pub lands : (a : Act) (s : Store) (t : ℕ) (r : Thread) → Lands (shape a) r (perform a s t r)
 lands Nothing s t r = tt
@@ -136,7 +136,7 @@ lands PickFree s t r =
     (λ f. rw f tt)
 lands Choose s t r =
     either-way (heldBy t (s .owner))
-    (λ f. rw f (choosing-lands s r (toBlock (s .header) (s .wear) (s .blocks)) (leastWorn (s .header) (s .wear) (s .blocks))))
+    (λ f. rw f (choosing-lands (s .wear) (s .distance) r (toBlock (s .header) (s .wear) (s .blocks)) (leastWorn (s .header) (s .wear) (s .blocks))))
     (λ f. rw f tt)
 lands ReadHeader s t r = either-way (heldBy t (s .owner)) (λ f. rw f (search inl)) (λ f. rw f tt)
 lands WriteHeaderN s t r = either-way (heads s t (r .p)) (λ f. rw f (search inl)) (λ f. rw f tt)

@@ -129,9 +129,9 @@ abbrev pub heads : Store → ℕ → ℕ → Bool
 heads s t m = heldBy t (s .owner) && heldBy t (s .own m)
 
 -- L3 where `to` and the least worn mapped block are found
-abbrev pub choosing : Store → Thread → Found → Found → Verdict
-choosing s r Nobody from = Fault
-choosing s r (At to) from = next (setQ to (setP (fromBlock (s .wear) (s .distance) to from) r)) nothing
+abbrev pub choosing : (ℕ → ℕ) → ℕ → Thread → Found → Found → Verdict
+choosing wear distance r Nobody from = Fault
+choosing wear distance r (At to) from = next (setQ to (setP (fromBlock wear distance to from) r)) nothing
 
 -- what the act would do: of store s, for thread t with record r
 abbrev pub perform : Act → Store → ℕ → Thread → Verdict
@@ -155,7 +155,7 @@ perform PickFree s t r =
     (next (setP (lowestFree (s .header) (s .blocks)) r) nothing))
 perform Choose s t r =
     need (heldBy t (s .owner))
-    (choosing s r (toBlock (s .header) (s .wear) (s .blocks)) (leastWorn (s .header) (s .wear) (s .blocks)))
+    (choosing (s .wear) (s .distance) r (toBlock (s .header) (s .wear) (s .blocks)) (leastWorn (s .header) (s .wear) (s .blocks)))
 perform ReadHeader s t r = need (heldBy t (s .owner)) (next (setH (s .header (r .p)) r) nothing)
 perform WriteHeaderN s t r = need (heads s t (r .p)) (next r (onHeader (r .p) (naming (r .n))))
 perform WriteHeaderH s t r = need (heads s t (r .q)) (next r (onHeader (r .q) (r .h)))

@@ -60,9 +60,9 @@ answer-small Zero r h = omega arith
 answer-small C r h = h
 answer-small Moved r h = moved-small (r .h)
 
-choosing-small : (s : Store) (r : Thread) (to from : Found) → Small (choosing s r to from)
-choosing-small s r Nobody from = fault
-choosing-small s r (At to) from = go
+choosing-small : (wear : ℕ → ℕ) (distance : ℕ) (r : Thread) (to from : Found) → Small (choosing wear distance r to from)
+choosing-small wear distance r Nobody from = fault
+choosing-small wear distance r (At to) from = go
 
 perform-small : (a : Act) (s : Store) (t : ℕ) (r : Thread) → r .c < wordRange → Small (perform a s t r)
 perform-small Nothing s t r h = fault
@@ -84,7 +84,7 @@ perform-small PickFree s t r h =
     small-cond (heldBy t (s .owner)) (small-cond (ltb (lowestFree (s .header) (s .blocks)) (s .blocks)) go fault) fault
 perform-small Choose s t r h =
     small-cond (heldBy t (s .owner))
-    (choosing-small s r (toBlock (s .header) (s .wear) (s .blocks)) (leastWorn (s .header) (s .wear) (s .blocks)))
+    (choosing-small (s .wear) (s .distance) r (toBlock (s .header) (s .wear) (s .blocks)) (leastWorn (s .header) (s .wear) (s .blocks)))
     fault
 perform-small ReadHeader s t r h = small-cond (heldBy t (s .owner)) go fault
 perform-small WriteHeaderN s t r h = small-cond (heads s t (r .p)) go fault

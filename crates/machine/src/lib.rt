@@ -292,6 +292,8 @@ pub fn judge(area: &[u8], z: Sizes, t: u32, r: Thread) -> Verdict
     requires { ⌜ Live (now area) (z .t) (z .n) (z .p) × Steady t r × AtLine r ⌝ }
     ensures { λ v. ⌜ v ≡ performOf (actAt (r .op) (r .line)) (decode (now (area .entry))) t r ⌝ }
 {
+    // First, since it is read back from words just written, which would have to wait for the store's zeros.
+    let act = acts::act_at(r.op, r.line);
     let map = store::map_at(z.t);
     let locks = store::locks_at(z.t, z.n);
     let blocks = store::blocks_at(z.t, z.n);
@@ -309,7 +311,6 @@ pub fn judge(area: &[u8], z: Sizes, t: u32, r: Thread) -> Verdict
     store::read_numbers(area, map, numbers, &mut s.map);
     store::read_numbers(area, locks, numbers, &mut s.locks);
     store::read_blocks(area, blocks, cells, &mut s.blocks);
-    let act = acts::act_at(r.op, r.line);
     let near = words_near(r, s.lock, s.owner, &s.map, &s.locks, &s.blocks);
     let sight = Sight {
         near,

@@ -1,3 +1,4 @@
+-- The laws that the functions' proofs cite, a file a subject.
 mod Reading
 mod Cutting
 pub mod Writing

@@ -15,7 +15,7 @@ use Rattle.machine.proofs.judge.Tie as tie
 
 -- where the six words at the head have been read: the function's start, and the working store as it was made
 abbrev start : tie.After-word-at6 → tie.Start
-start w = w .before .before .before .before .before .before .before .before .before .before .before .before .before
+start w = w .before .before .before .before .before .before .before .before .before .before .before .before .before .before
 
 made : (w : tie.After-word-at6) → w .before .before .before .before .before .before .fresh .result ≡ zeroFilled
 made w = w .before .before .before .before .before .before .fresh .ensures
@@ -45,19 +45,19 @@ read-blocks-requires c κs =
     fills live _ _ (blockWords * mostBlocks) (ap (λ s. s .blocks) (made w)) (omega (arith, live)) (omega (arith, live, w .before .before .before .before .before .before .before .before .before .blocks-at .ensures))
 
 act-at-requires : tie.Need-act-at-requires
-act-at-requires c κs = let at-line = start (c .before .before .before .before .before .before .before .before) .pre .2 in (at-line .op, at-line .low, at-line .high)
+act-at-requires c κs = let at-line = c .before .pre .2 in (at-line .op, at-line .low, at-line .high)
 
 words-near-requires : tie.Need-words-near-requires
-words-near-requires c κs = let steady = start (c .before .before .before .before .before .before .before .before .before .before .before .before .before) .pre .1 in (steady .n, steady .p, steady .q)
+words-near-requires c κs = let steady = start (c .before .before .before .before .before .before .before .before .before .before .before .before) .pre .1 in (steady .n, steady .p, steady .q)
 
 perform-requires : tie.Need-perform-requires
 perform-requires c κs =
-    let w = c .before .before .before .before .before .before .before .before .before .before .before .before .before .before .before .before in
+    let w = c .before .before .before .before .before .before .before .before .before .before .before .before .before .before .before in
     (start w .pre .1, omega (arith, w .before .before .before .word-at3 .ensures, start w .pre .0))
 
 returns : tie.Need-returns
 returns c =
-    let blocks = c .before .before .before .before .before .before .before .before .before in
+    let blocks = c .before .before .before .before .before .before .before .before in
     let locks = blocks .before .before in
     let map = locks .before .before in
     let threads = map .before .before in
@@ -92,12 +92,12 @@ returns c =
     } in
     perform-same (a .t) (a .r)
     (c .perform .ensures (view w) (near-sees w (a .r) (c .before .before .before .words-near .ensures)) (record { header = refl; wear = refl; blocks = refl; distance = refl }))
-    (c .before .before .before .before .before .before .before .before .act-at .ensures) (view-loaded (start head .pre .0) loaded)
+    (places .before .before .before .act-at .ensures) (view-loaded (start head .pre .0) loaded)
 
 pub judge-spec : {M : Type 1} → statement M
 judge-spec =
     tie.close
-    (tie.spec (λ c κs. search needs) (λ c κs. search needs) (λ c κs. search needs) (λ c. search needs) (λ c. search needs)
-    (λ c κs. search needs) (λ c κs. search needs) (λ c κs. search needs) (λ c κs. search needs) (λ c κs. search needs)
-    (λ c κs. search needs) (λ c κs. search needs) read-threads-requires read-numbers-requires read-numbers-requires-2
-    read-blocks-requires act-at-requires words-near-requires perform-requires returns)
+    (tie.spec act-at-requires (λ c κs. search needs) (λ c κs. search needs) (λ c κs. search needs) (λ c. search needs)
+    (λ c. search needs) (λ c κs. search needs) (λ c κs. search needs) (λ c κs. search needs) (λ c κs. search needs)
+    (λ c κs. search needs) (λ c κs. search needs) (λ c κs. search needs) read-threads-requires read-numbers-requires
+    read-numbers-requires-2 read-blocks-requires words-near-requires perform-requires returns)

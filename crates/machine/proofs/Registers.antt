@@ -15,9 +15,11 @@ use Rattle.machine.specs.Judging.{Sees, nearOf, ownOf, headerOf}
 
 -- the words near a record are those of the working store
 pub near-sees :
-    (w : Working) (r : Thread) {x : Near} → x ≡ nearOf r (w .lock) (w .owner) (table (w .map)) (table (w .locks)) (w .blocks) → Sees (view w) r x
+    (w : Working) (r : Thread) {x : Near} → x ≡ nearOf r (w .p) (w .d) (w .lock) (w .owner) (table (w .map)) (table (w .locks)) (w .blocks) → Sees (view w) r x
 near-sees w r e =
     record {
+      blocks = ap (λ x. x .blocks) e;
+      distance = ap (λ x. x .distance) e;
       lock = ap (λ x. x .lock) e;
       owner = ap (λ x. x .owner) e;
       map = ap (λ x. x .map) e;

@@ -175,6 +175,6 @@ chosen-found header wear blocks distance q r t i f d o n v =
 
 -- it is that of the store that the tables and numbers are of
 pub chosen-seen :
-    {s : Store} {header wear : ℕ → ℕ} {blocks distance : ℕ} (r : Thread) {v : Verdict} → Searches s header wear blocks distance →
-    v ≡ chosenOf header wear blocks distance r → v ≡ chosenOf (s .header) (s .wear) (s .blocks) (s .distance) r
-chosen-seen r g e = e ∙ (λ i. chosenOf (g .header i) (g .wear i) (g .blocks i) (g .distance i) r)
+    {s : Store} {header wear : ℕ → ℕ} {blocks distance : ℕ} (r : Thread) {v : Verdict} → Searches s header wear → blocks ≡ s .blocks →
+    distance ≡ s .distance → v ≡ chosenOf header wear blocks distance r → v ≡ chosenOf (s .header) (s .wear) (s .blocks) (s .distance) r
+chosen-seen r g b d e = e ∙ (λ i. chosenOf (g .header-same i) (g .wear-same i) (b i) (d i) r)

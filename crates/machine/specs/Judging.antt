@@ -40,6 +40,8 @@ chosenOf header wear blocks distance r = choosing wear distance r (toBlock heade
 
 -- the words of store s that a line of record r may look at, the searches' tables left out
 pub record Sees (s : Store) (r : Thread) (x : Near) : Type 0 where
+  pub blocks : x .blocks ≡ s .blocks
+  pub distance : x .distance ≡ s .distance
   pub lock : x .lock ≡ s .lock
   pub owner : x .owner ≡ s .owner
   pub map : x .map ≡ s .map (r .n)
@@ -52,15 +54,15 @@ pub record Sees (s : Store) (r : Thread) (x : Near) : Type 0 where
   pub own-q : x .«own_q» ≡ s .own (r .q)
 
 -- and what the searches look at
-pub record Searches (s : Store) (headers wears : ℕ → ℕ) (count away : ℕ) : Type 0 where
-  pub header : headers ≡ s .header
-  pub wear : wears ≡ s .wear
-  pub blocks : count ≡ s .blocks
-  pub distance : away ≡ s .distance
+pub record Searches (s : Store) (header wear : ℕ → ℕ) : Type 0 where
+  pub header-same : header ≡ s .header
+  pub wear-same : wear ≡ s .wear
 
-abbrev pub nearOf : Thread → ℕ → ℕ → (ℕ → ℕ) → (ℕ → ℕ) → List ℕ → Near
-nearOf r lock owner map locks records =
+abbrev pub nearOf : Thread → ℕ → ℕ → ℕ → ℕ → (ℕ → ℕ) → (ℕ → ℕ) → List ℕ → Near
+nearOf r blocks distance lock owner map locks records =
     record {
+      blocks = blocks;
+      distance = distance;
       lock = lock;
       owner = owner;
       map = map (r .n);

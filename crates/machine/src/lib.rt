@@ -49,8 +49,11 @@ use meaning::Verdict::Fault;
 use meaning::Word;
 use store::Store;
 
-// The words that a line may look at, the searches' tables left out: those of H, the headers' owner, number n, and blocks p and q.
+// What a line may look at, the searches' block records left out: how many blocks there are, the levelling distance, and the words of H, of
+// the headers' owner, of number n and of blocks p and q.
 struct Near {
+    pub blocks: u32,
+    pub distance: u32,
     pub lock: u32,
     pub owner: u32,
     pub map: u32,
@@ -207,19 +210,11 @@ fn pick(records: &Records, blocks: u32, r: Thread) -> Verdict
     need(p < blocks, next(set_p(p, r), nothing()))
 }
 
-// What a line may look at, the searches' block records left out: the words near, how many blocks there are, and the levelling distance.
-struct Sight {
-    near: Near,
-    blocks: u32,
-    distance: u32,
-}
-
 // What the act would do: an arm an act, as in specs/Step.antt. `me` is the word of what thread t holds or owns.
-fn perform(act: Act, t: u32, r: Thread, v: Sight, records: &Records) -> Verdict
-    requires { ⌜ Steady t r × (v .blocks ≤ mostBlocks) ⌝ }
-    ensures { λ y. ⌜ ((s : StoreOf) → Sees s r (v .near) → Searches s (headers (now (records .entry))) (wears (now (records .entry))) (v .blocks) (v .distance) → y ≡ performOf act s t r) ⌝ }
+fn perform(act: Act, t: u32, r: Thread, x: Near, records: &Records) -> Verdict
+    requires { ⌜ Steady t r × (x .blocks ≤ mostBlocks) ⌝ }
+    ensures { λ y. ⌜ ((s : StoreOf) → Sees s r x → Searches s (headers (now (records .entry))) (wears (now (records .entry))) → y ≡ performOf act s t r) ⌝ }
 {
-    let x = v.near;
     let me = t + 1;
     match act {
         Nothing => Fault,
@@ -237,8 +232,8 @@ fn perform(act: Act, t: u32, r: Thread, v: Sight, records: &Records) -> Verdict
         GoIfUnmapped(l) => branch(x.map, goto(l, r), set_p(named(x.map), onward(r))),
         EmptyIfUnmapped(l) => branch(x.map, set_c(0, goto(l, r)), set_p(named(x.map), onward(r))),
         GoIfFree(l) => branch(r.h, goto(l, r), set_n(named(r.h), onward(r))),
-        PickFree => need(x.owner == me, pick(records, v.blocks, r)),
-        Choose => need(x.owner == me, choose(records, v.blocks, v.distance, r)),
+        PickFree => need(x.owner == me, pick(records, x.blocks, r)),
+        Choose => need(x.owner == me, choose(records, x.blocks, x.distance, r)),
         ReadHeader => need(x.owner == me, next(set_h(x.header_p, r), nothing())),
         WriteHeaderN => need(heads(x, me, P), next(r, on_header(r.p, r.n + 1))),
         WriteHeaderH => need(heads(x, me, Q), next(r, on_header(r.q, r.h))),
@@ -254,6 +249,8 @@ fn perform(act: Act, t: u32, r: Thread, v: Sight, records: &Records) -> Verdict
 // The words that a line of record r may look at.
 fn words_near<'a>(
     r: Thread,
+    blocks: u32,
+    distance: u32,
     lock: u32,
     owner: u32,
     map: &'a [u32; Store::MAX_N],
@@ -261,12 +258,14 @@ fn words_near<'a>(
     records: &'a Records,
 ) -> Near
     requires { ⌜ (r .n < mostNumbers) × (r .p < mostBlocks) × (r .q < mostBlocks) ⌝ }
-    ensures { λ x. ⌜ x ≡ nearOf r lock owner (table (now (map .entry))) (table (now (locks .entry))) (now (records .entry)) ⌝ }
+    ensures { λ x. ⌜ x ≡ nearOf r blocks distance lock owner (table (now (map .entry))) (table (now (locks .entry))) (now (records .entry)) ⌝ }
 {
     let n = r.n as usize;
     let p = store::BLOCK_WORDS * (r.p as usize);
     let q = store::BLOCK_WORDS * (r.q as usize);
     Near {
+        blocks,
+        distance,
         lock,
         owner,
         map: map[n],
@@ -311,13 +310,8 @@ pub fn judge(area: &[u8], z: Sizes, t: u32, r: Thread) -> Verdict
     store::read_numbers(area, map, numbers, &mut s.map);
     store::read_numbers(area, locks, numbers, &mut s.locks);
     store::read_blocks(area, blocks, cells, &mut s.blocks);
-    let near = words_near(r, s.lock, s.owner, &s.map, &s.locks, &s.blocks);
-    let sight = Sight {
-        near,
-        blocks: s.p,
-        distance: s.d,
-    };
-    perform(act, t, r, sight, &s.blocks)
+    let near = words_near(r, s.p, s.d, s.lock, s.owner, &s.map, &s.locks, &s.blocks);
+    perform(act, t, r, near, &s.blocks)
 }
 
 // ---- doing it

@@ -53,7 +53,9 @@ words-near-requires c κs = let steady = start (c .before .before .before .befor
 perform-requires : tie.Need-perform-requires
 perform-requires c κs =
     let w = c .before .before .before .before .before .before .before .before .before .before .before .before .before .before .before in
-    (start w .pre .1, omega (arith, w .before .before .before .word-at3 .ensures, start w .pre .0))
+    let near = c .before .before .words-near in
+    let blocks : near .result .blocks ≡ w .before .before .before .word-at3 .result = λ i. near .ensures i .blocks in
+    (start w .pre .1, omega (arith, blocks, w .before .before .before .word-at3 .ensures, start w .pre .0))
 
 returns : tie.Need-returns
 returns c =
@@ -91,7 +93,7 @@ returns c =
       blocks = rw (places .blocks-at .ensures) at (blocks .read-blocks .ensures);
     } in
     perform-same (a .t) (a .r)
-    (c .perform .ensures (view w) (near-sees w (a .r) (c .before .before .before .words-near .ensures)) (record { header = refl; wear = refl; blocks = refl; distance = refl }))
+    (c .perform .ensures (view w) (near-sees w (a .r) (c .before .before .before .words-near .ensures)) (record { header-same = refl; wear-same = refl }))
     (places .before .before .before .act-at .ensures) (view-loaded (start head .pre .0) loaded)
 
 pub judge-spec : {M : Type 1} → statement M

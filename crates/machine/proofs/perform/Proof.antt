@@ -19,7 +19,7 @@ next-requires-14 : tie.Need-next-requires-14
 next-requires-14 c κs = rw (c .before .set-c2 .ensures) (search needs)
 
 add-on-map : tie.Need-add-on-map
-add-on-map c = omega (arith, c .block4 .ensures, block-below (c .before .before .act10 .given .0 .0) (c .before .before .before .before .before .args .r) mostBlocks (c .before .before .before .before .before .pre .0 .p) (c .before .before .before .before .before .pre .0 .q))
+add-on-map c = omega (arith, c .block4 .ensures, block-below (c .before .before .act10 .given .0 .0) (c .before .before .before .before .args .r) mostBlocks (c .before .before .before .before .pre .0 .p) (c .before .before .before .before .pre .0 .q))
 
 returns : tie.Need-returns
 returns c s e g = rw (c .enum-told .given .1)
@@ -68,17 +68,17 @@ returns-15 c s e g = rw (c .before .before .before .before .before .before .act8
 
 returns-16 : tie.Need-returns-16
 returns-16 c s e g =
-    let a = c .before .before .before .before .before .before .args in
+    let a = c .before .before .before .before .before .args in
     rw (c .before .before .before .enum-told8 .given .1)
     (c .need9 .ensures
     ∙ ap₂ (λ w v. need (heldBy (a .t) w) v) (e .owner)
-    (c .before .pick .ensures ∙ (λ i. pickedOf (g .header i) (g .blocks i) (a .r))))
+    (c .before .pick .ensures ∙ (λ i. pickedOf (g .header-same i) (e .blocks i) (a .r))))
 
 returns-17 : tie.Need-returns-17
 returns-17 c s e g =
-    let a = c .before .before .before .before .before .before .args in
+    let a = c .before .before .before .before .before .args in
     rw (c .before .before .before .enum-told9 .given .1)
-    (c .need10 .ensures ∙ ap₂ (λ w v. need (heldBy (a .t) w) v) (e .owner) (chosen-seen (a .r) g (c .before .choose .ensures)))
+    (c .need10 .ensures ∙ ap₂ (λ w v. need (heldBy (a .t) w) v) (e .owner) (chosen-seen (a .r) g (e .blocks) (e .distance) (c .before .choose .ensures)))
 
 returns-18 : tie.Need-returns-18
 returns-18 c s e g = rw (c .before .before .before .before .before .enum-told10 .given .1) (simp (c .need11 .ensures, c .before .next9 .ensures, c .before .before .nothing .ensures, c .before .before .before .set-h .ensures, e .owner, e .header-p))

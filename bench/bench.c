@@ -213,8 +213,9 @@ static void compare_mix(const work *w)
 /* ---- Measuring ---- */
 
 typedef struct {
-    uint64_t calls;
-    double ns[VERSIONS][RUNS]; /* a call, in rising order once measured */
+    uint64_t calls, sum;                /* of the first run, */
+    uint8_t end[KERNELSUN_LENGTH_MOST]; /* with the bytes that it left */
+    double ns[VERSIONS][RUNS];          /* a call, in rising order once measured */
 } figure;
 
 static double now_in_ns(void)
@@ -243,30 +244,38 @@ static tally timed(const work *w, step_call *call, uint8_t *area, double *ns)
 /* Each run of each version must end as the first one did. */
 static void check_end(const work *w, const uint8_t *area, tally done, figure *f)
 {
-    static uint8_t end[KERNELSUN_LENGTH_MOST];
-    static uint64_t sum;
     if (f->calls == 0) {
-        memcpy(end, area, w->len);
+        memcpy(f->end, area, w->len);
         f->calls = done.calls;
-        sum = done.sum;
+        f->sum = done.sum;
     }
-    stop_unless(done.calls == f->calls && done.sum == sum, "the versions give different results");
-    stop_unless(memcmp(area, end, w->len) == 0, "the versions leave different bytes");
+    stop_unless(done.calls == f->calls && done.sum == f->sum,
+                "the versions give different results");
+    stop_unless(memcmp(area, f->end, w->len) == 0, "the versions leave different bytes");
     areas_compared++;
 }
 
-static void measure(const work *w, figure *f)
+static void measure_run(const work *w, figure *f, int run)
 {
     static uint8_t area[KERNELSUN_LENGTH_MOST];
-    f->calls = 0;
+    for (int v = 0; v < VERSIONS; v++) {
+        tally done = timed(w, versions[v], area, &f->ns[v][run]);
+        check_end(w, area, done, f);
+    }
+}
+
+/* The works take turns, so that a slow moment of the machine falls on all of them. */
+static void measure(const work *works, figure *figures, int count)
+{
     for (int run = 0; run < RUNS; run++) {
-        for (int v = 0; v < VERSIONS; v++) {
-            tally done = timed(w, versions[v], area, &f->ns[v][run]);
-            check_end(w, area, done, f);
+        for (int i = 0; i < count; i++) {
+            measure_run(&works[i], &figures[i], run);
         }
     }
-    for (int v = 0; v < VERSIONS; v++) {
-        qsort(f->ns[v], RUNS, sizeof f->ns[v][0], by_size);
+    for (int i = 0; i < count; i++) {
+        for (int v = 0; v < VERSIONS; v++) {
+            qsort(figures[i].ns[v], RUNS, sizeof figures[i].ns[v][0], by_size);
+        }
     }
 }
 
@@ -345,9 +354,7 @@ int main(void)
     }
     make_idle(&works[FIGURE_IDLE], &mix_areas[MIX_LARGEST]);
     make_choosing(&works[FIGURE_CHOOSING], &mix_areas[MIX_LARGEST]);
-    for (int i = 0; i < FIGURES; i++) {
-        measure(&works[i], &figures[i]);
-    }
+    measure(works, figures, FIGURES);
     printf("A run is %d calls, or the steps of %d operations (%u on the largest area).\n\n",
            CALLS_A_RUN, OPERATIONS_A_RUN, (unsigned)figures[MIX_LARGEST].calls);
     print_table("least", 0);

@@ -7,7 +7,8 @@ use lib.ListN.{getD, length, replicate, length-replicate}
 use Rattle.meaning.specs.Table.{below}
 use Rattle.meaning.specs.Store.{idle, fresh}
 use Rattle.store.specs.Layout.{tAt, nAt, pAt, dAt, threadsAt, threadWords, mapAt, locksAt, blocksAt, blockWords, size}
-use Rattle.store.specs.Area.{Bytes, word, putWord, threadFrom, column, storeOf, encode, decode}
+use Rattle.store.specs.Area.{Bytes, word, threadFrom, column, storeOf, encode, decode}
+use Rattle.store.specs.Live.{putWord}
 use Rattle.store.proofs.Decode.{below-is}
 use Rattle.store.proofs.Words.{putFrom, updFrom, length-putFrom, bytes-putFrom, word-putFrom, updFrom-other}
 use Rattle.store.proofs.Sound.{Sizes}

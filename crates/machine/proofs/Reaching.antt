@@ -12,8 +12,8 @@ use Rattle.meaning.specs.declared.Effect.{Effect}
 use Rattle.meaning.specs.Store.{Store}
 use Rattle.meaning.specs.Step.{apply, nothing}
 use Rattle.store.specs.Layout.{pAt, lockAt, ownerAt, threadsAt, threadWords}
-use Rattle.store.specs.Area.{Bytes, decode, putWord, putBecome, putEntry, putThread}
-use Rattle.store.specs.Live.{Live, Within, BecomeFits, EntryFits, EntryBelow, EntryWithin, Small, made}
+use Rattle.store.specs.Area.{Bytes, decode}
+use Rattle.store.specs.Live.{Live, Within, BecomeFits, EntryFits, EntryBelow, EntryWithin, Small, made, putWord, putBecome, putEntry, putThread}
 use Rattle.store.proofs.Words.{bytes-put}
 use Rattle.store.proofs.Tables.{lockOnly, ownerOnly, live-become, live-entry, within-entry, decode-lock, decode-owner, live-thread, decode-thread}
 use Rattle.machine.specs.Settling.{Reached}

@@ -32,6 +32,7 @@ use acts::set_c;
 use acts::set_h;
 use acts::set_n;
 use acts::set_p;
+use acts::set_q;
 use acts::take;
 use acts::worn;
 use meaning::Act;
@@ -104,8 +105,8 @@ fn weight(b: Reg, header: u32, wear: u32) -> u64
     ensures { λ r. ⌜ (r ≡ weightOf b header wear) × (wear ≤ mostWord) ⌝ }
 {
     match b {
-        Reg::P => { if header == 0 { 0 } else { BEYOND - long(wear) } }
-        Reg::Q => { if header == 0 { long(wear) + 1 } else { 0 } }
+        P => { if header == 0 { 0 } else { BEYOND - long(wear) } }
+        Q => { if header == 0 { long(wear) + 1 } else { 0 } }
     }
 }
 
@@ -156,13 +157,13 @@ fn choose(records: &Records, blocks: u32, distance: u32, r: Thread) -> Verdict
     requires { ⌜ (blocks ≤ mostBlocks) × (r .line < mostWord) ⌝ }
     ensures { λ v. ⌜ v ≡ chosenOf (headers (now (records .entry))) (wears (now (records .entry))) blocks distance r ⌝ }
 {
-    let to = heaviest(Reg::Q, records, blocks);
-    let from = heaviest(Reg::P, records, blocks);
+    let to = heaviest(Q, records, blocks);
+    let from = heaviest(P, records, blocks);
     match to {
-        Found::Nobody => Verdict::Fault,
+        Found::Nobody => Fault,
         Found::At(q) => {
             let p = from_block(records, distance, q, from);
-            acts::next(acts::set_q(q, acts::set_p(p, r)), acts::nothing())
+            next(set_q(q, set_p(p, r)), nothing())
         }
     }
 }
@@ -291,7 +292,7 @@ pub fn judge(area: &[u8], z: Sizes, t: u32, r: Thread) -> Verdict
     requires { ⌜ Live (now area) (z .t) (z .n) (z .p) × Steady t r × AtLine r ⌝ }
     ensures { λ v. ⌜ v ≡ performOf (actAt (r .op) (r .line)) (decode (now (area .entry))) t r ⌝ }
 {
-    // First, since it is read back from words just written, which would have to wait for the store's zeros.
+    // The act comes first: its table is made on the stack, and reading from it would wait until the store's zeros are written.
     let act = acts::act_at(r.op, r.line);
     let map = store::map_at(z.t);
     let locks = store::locks_at(z.t, z.n);

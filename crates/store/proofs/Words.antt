@@ -13,8 +13,8 @@ use borrow.Author.Tests.{eqb-true, eqb-false}
 use Rattle.meaning.specs.Limits.{mostWord}
 use Rattle.meaning.specs.Table.{upd}
 use Rattle.meaning.proofs.Words.{either-way, upd-same, upd-other}
-use Rattle.store.specs.Area.{Bytes, word, bytes, putWord}
-use Rattle.store.specs.Live.{Within}
+use Rattle.store.specs.Area.{Bytes, word, bytes}
+use Rattle.store.specs.Live.{Within, putWord}
 
 -- ---- a word and its four bytes
 

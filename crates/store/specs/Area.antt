@@ -3,13 +3,9 @@
 use mathlib.Core.Bool.{Bool, cond, _&&_}
 use mathlib.Core.List.{List, [], _∷_, _++_}
 use Prim.Native.Nat.{ℕ, zero, suc, _+_, _*_, _/_, _%_, _<_}
-use lib.ListN.{getD, set, length}
+use lib.ListN.{getD, length}
 use lib.Dec.{eqb, ltb, leb}
 use Rattle.meaning.specs.declared.Thread.{Thread}
-use Rattle.meaning.specs.declared.Word.{Word}
-use Rattle.meaning.specs.declared.Word.the-variants.{Stay, Become}
-use Rattle.meaning.specs.declared.Entry.{Entry}
-use Rattle.meaning.specs.declared.Entry.the-variants.{Keep, Put}
 use Rattle.meaning.specs.Table.{below, every}
 use Rattle.meaning.specs.Limits.{inLimits, within}
 use Rattle.meaning.specs.Store.{Store, idle}
@@ -29,32 +25,6 @@ word a k =
 abbrev pub bytes : List ℕ → List ℕ
 bytes [] = []
 bytes (v ∷ vs) = v % 256 ∷ v / 256 % 256 ∷ v / 65536 % 256 ∷ v / 16777216 % 256 ∷ bytes vs
-
--- the area with v as its word k
-abbrev pub putWord : List ℕ → ℕ → ℕ → List ℕ
-putWord a k v =
-    set (set (set (set a (4 * k) (v % 256)) (4 * k + 1) (v / 256 % 256)) (4 * k + 2) (v / 65536 % 256)) (4 * k + 3)
-    (v / 16777216 % 256)
-
--- the area with a thread's record as its seven words from k on
-abbrev pub putThread : List ℕ → ℕ → Thread → List ℕ
-putThread a k r =
-    putWord
-    (putWord
-    (putWord
-    (putWord (putWord (putWord (putWord a k (r .op)) (k + 1) (r .line)) (k + 2) (r .n)) (k + 3) (r .c)) (k + 4) (r .p))
-    (k + 5) (r .q))
-    (k + 6) (r .h)
-
--- the area with what becomes of its word k
-abbrev pub putBecome : List ℕ → ℕ → Word → List ℕ
-putBecome a k Stay = a
-putBecome a k (Become v) = putWord a k v
-
--- the area with what becomes of the column of words at from, from + stride, ..
-abbrev pub putEntry : List ℕ → ℕ → ℕ → Entry → List ℕ
-putEntry a from stride Keep = a
-putEntry a from stride (Put k v) = putWord a (from + stride * k) v
 
 -- ---- the area of a store
 

@@ -1,9 +1,9 @@
--- What the functions between our own crates may take for granted of an area: it has the length of its sizes, and these are in limits.
--- Linear facts alone.
+-- What contracts between our own functions cite: what they may take for granted of an area, which is linear facts alone (it has the length of
+-- its sizes, and these are in limits), what the setters do, and the working store.
 use mathlib.Core.Path.{_≡_}
 use mathlib.Core.List.{List}
-use Prim.Native.Nat.{ℕ, _+_, _*_, _<_, _≤_}
-use lib.ListN.{length, getD, replicate}
+use Prim.Native.Nat.{ℕ, _+_, _*_, _/_, _%_, _<_, _≤_}
+use lib.ListN.{length, getD, set, replicate}
 use Rattle.meaning.specs.declared.Thread.{Thread}
 use Rattle.meaning.specs.declared.Word.{Word}
 use Rattle.meaning.specs.declared.Word.the-variants.{Stay, Become}
@@ -66,6 +66,34 @@ pub record Fills (a : List ℕ) (from count : ℕ) (into : List ℕ) : Type 0 wh
   pub reach : Reaches a from 1 count
   pub fit : count ≤ length into
   pub zeroed : into ≡ replicate (length into) 0
+
+-- ---- setters
+
+-- the area with v as its word k
+abbrev pub putWord : List ℕ → ℕ → ℕ → List ℕ
+putWord a k v =
+    set (set (set (set a (4 * k) (v % 256)) (4 * k + 1) (v / 256 % 256)) (4 * k + 2) (v / 65536 % 256)) (4 * k + 3)
+    (v / 16777216 % 256)
+
+-- the area with a thread's record as its seven words from k on
+abbrev pub putThread : List ℕ → ℕ → Thread → List ℕ
+putThread a k r =
+    putWord
+    (putWord
+    (putWord
+    (putWord (putWord (putWord (putWord a k (r .op)) (k + 1) (r .line)) (k + 2) (r .n)) (k + 3) (r .c)) (k + 4) (r .p))
+    (k + 5) (r .q))
+    (k + 6) (r .h)
+
+-- the area with what becomes of its word k
+abbrev pub putBecome : List ℕ → ℕ → Word → List ℕ
+putBecome a k Stay = a
+putBecome a k (Become v) = putWord a k v
+
+-- the area with what becomes of the column of words at from, from + stride, ..
+abbrev pub putEntry : List ℕ → ℕ → ℕ → Entry → List ℕ
+putEntry a from stride Keep = a
+putEntry a from stride (Put k v) = putWord a (from + stride * k) v
 
 -- ---- the working store
 

@@ -8,7 +8,7 @@ use borrow.Author.Tests.{not-true, not-false}
 use Rattle.meaning.specs.Numbers.{WENT, SHAPE, LIMITS}
 use Rattle.meaning.specs.Limits.{inLimits}
 use Rattle.store.specs.Layout.{tAt, nAt, pAt, dAt, size}
-use Rattle.store.specs.Area.{putWord}
+use Rattle.store.specs.Live.{putWord}
 use Rattle.store.proofs.Sound.{limits-sizes}
 use Rattle.door.proofs.Replies.{gives, format-limits, format-shape, format-went}
 use Rattle.door.proofs.Fresh.{area-fresh}

@@ -23,10 +23,10 @@ use Rattle.meaning.specs.Programs.{READ}
 use Rattle.meaning.specs.Call.{Entry, callStore, isIdle}
 use Rattle.meaning.specs.Manager.{initial, ebmRead}
 use Rattle.meaning.specs.Schedule.{Operation, Answered, run, order, begunBy, finishedBy, obeyAll, managed, ofManager}
-use Rattle.meaning.specs.Demands.{isMapped, kept, leavesAlone, pending, Owed, requests, place, Gives, ManagerAnswers, Linearizes}
+use Rattle.meaning.specs.Demands.{isMapped, kept, leavesAlone, pending, Owed, requestOf, requests, place, Gives, ManagerAnswers, Linearizes, InRealTime}
 use Rattle.meaning.proofs.ManagerView.{keeps, asked}
 use Rattle.meaning.proofs.ManagerAnswers.{manager-answers, manager-keeps, manager-keeps-rest}
-use Rattle.meaning.proofs.Linearizable.{linearizable, reads-give, read-finished, one-block-each}
+use Rattle.meaning.proofs.Linearizable.{linearizable, in-real-time, reads-give, read-finished, one-block-each}
 use Rattle.store.specs.Area.{decode}
 use Rattle.store.specs.Calls.{callArea, Formatted, Grown}
 use Rattle.store.proofs.Range.{formatted-good, formatted-fresh}
@@ -67,8 +67,17 @@ module _ (a : List ℕ) (f : Formatted a) (w : List Entry) (x : AllWords w) wher
   pub area-real-time :
       (v v′ : List Entry) → v ++ v′ ≡ w → (u i u′ i′ : ℕ) → i < length (ofManager (finishedBy callArea decode a u v)) →
       length (requests u′ (begunBy callArea decode a u′ v)) ≤ i′ →
-      place u (order callArea decode a w) i < place u′ (order callArea decode a w) i′
+      place (requestOf u) (order callArea decode a w) i < place (requestOf u′) (order callArea decode a w) i′
   area-real-time = area-linearizable .real-time
+
+  -- of all operations, levellings too
+  pub area-in-real-time : InRealTime callArea decode a w
+  area-in-real-time v v′ whole u i u′ i′ finished unbegun =
+      let g = formatted-good a f in
+      let L = formatted-fresh a f (λ s. InRealTime callStore (λ s. s) s w) (λ t n p d limits. in-real-time t n p d limits w) in
+      let y = words-first v v′ (subst AllWords (sym whole) x) in
+      rw (order-decoded a g w x)
+      (L v v′ whole u i u′ i′ (rw (finishedBy-decoded a g u v y) at finished) (rw (begunBy-decoded a g u′ v y) at unbegun))
 
   pub area-read-gives : (u : ℕ) (l : List Operation) (o : Operation) (l′ : List Operation) →
       order callArea decode a w ≡ l ++ (o ∷ l′) → o .op ≡ READ → o .thread ≡ u →

@@ -20,7 +20,7 @@ use Rattle.meaning.specs.Programs.{WRITE, LEVEL, lastLine, actAt, lastTa
 use Rattle.meaning.specs.Step.{nothing, apply}
 use Rattle.meaning.specs.Call.{Entry, begin, step, callStore, isIdle, begun, storedN, storedC, reply}
 use Rattle.meaning.specs.Schedule.{Operation, Answered, operation, emit, takesLast, placed, run, placing, starting, finishing, order, begunBy, finishedBy}
-use Rattle.meaning.specs.Demands.{ofThread, ops, answeredOps, pending, placedOp, EachOnce}
+use Rattle.meaning.specs.Demands.{doneBy, ofThread, ops, answeredOps, pending, placedOp, EachOnce}
 use Rattle.meaning.proofs.Words.{same, either-way, and-left, and-right, or-way, within-true, upd-same, upd-other}
 use Rattle.meaning.proofs.Called.{by-begin, refused-not}
 use Rattle.meaning.proofs.Invariant.{Inv}
@@ -31,6 +31,7 @@ use Rattle.meaning.proofs.EitherOrder.{Going, left-by, can-going, going
 use Rattle.meaning.proofs.Places.{Went, went, over, Came, going-came, first-unplaced, last-unplaced, placed-kept}
 use Rattle.meaning.proofs.Settles.{stepped, stepped-is}
 use Rattle.meaning.proofs.LastLock.{work}
+use Rattle.meaning.proofs.Requests.{those-append}
 use Rattle.meaning.proofs.Schedules.{step-stays, refused-number, emit-append, placing-append, starting-append, finishing-append}
 
 -- ---- a step that takes a last lock takes a lock
@@ -57,12 +58,6 @@ last-takes s I t busy takes =
 ofThread-emit : (u : ℕ) (b : Bool) (o : Operation) → ofThread u (emit b o []) ≡ emit (b && eqb (o .thread) u) o []
 ofThread-emit u true o = refl
 ofThread-emit u false o = refl
-
-ofThread-append : (u : ℕ) (l m : List Operation) → ofThread u (l ++ m) ≡ ofThread u l ++ ofThread u m
-ofThread-append u [] m = refl
-ofThread-append u (o ∷ l) m =
-    ap (λ (k : List Operation). emit (eqb (o .thread) u) o k) (ofThread-append u l m)
-    ∙ sym (emit-append (eqb (o .thread) u) o (ofThread u l) (ofThread u m))
 
 -- what each call adds to the one list and to the other, with what is still open before and after it
 module _ {A : Type 0} (still : Store → List A) (f g : Store → Entry → List A) (F G : Store → List Entry → List A)
@@ -254,7 +249,7 @@ module _ (u : ℕ) where
   order-more s e w =
       let rest = order callStore (λ s. s) (callStore s e .after) w in
       ap (ofThread u) (sym (placing-append callStore (λ s. s) s e [] rest))
-      ∙ ofThread-append u (placing callStore (λ s. s) s e []) rest
+      ∙ those-append (doneBy u) (placing callStore (λ s. s) s e []) rest
 
   begun-all : (w : List Entry) (s : Store) → Inv s →
       pending u s ++ begunBy callStore (λ s. s) s u w ≡ its-order s w ++ pending u (run callStore s w)

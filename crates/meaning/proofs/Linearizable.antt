@@ -13,7 +13,8 @@
 --    the same order;
 --  * <H is that one operation has its response before the other has its invocation. The first is then before the other in S
 --    (`real-time`). An operation is named by its thread and by how many reads, writes and unmaps of that thread came before it; it is
---    what stands at its place (`place-holds` of Requests). A place past the end of S is that of an operation that is not in S.
+--    what stands at its place (`place-holds` of Requests). A place past the end of S is that of an operation that is not in S. Of all
+--    operations, levellings too, `in-real-time` says the same.
 --
 -- WHAT A READ GIVES. A read of number k that stands in S after operations l finishes with what the manager reads at k after l
 -- (`read-finished`; `read-answered` says it of the manager alone). That is the word of the last write of k in l, and empty, 0, if an
@@ -30,7 +31,7 @@ use mathlib.Core.Logic.{_⊎_, inl, inr}
 use Prim.Native.Nat.{ℕ, _<_, _≤_}
 use native.Mathlib.Omega.{arith}
 use lib.Dec.{eqb}
-use lib.ListN.{length, getD, length-append, List·getD-append}
+use lib.ListN.{length, getD, length-append, length-map, List·getD-append}
 use lib.Seq.{getD-at}
 use borrow.Author.Tests.{eqb-true, not-true}
 use Rattle.meaning.specs.Limits.{inLimits}
@@ -40,7 +41,7 @@ use Rattle.meaning.specs.Programs.{WRITE, READ, UNMAP, LEVEL}
 use Rattle.meaning.specs.Call.{Entry, callStore}
 use Rattle.meaning.specs.Manager.{Manager, empty, initial, ebmRead}
 use Rattle.meaning.specs.Schedule.{Operation, Answered, run, order, begunBy, finishedBy, obey, obeyAll, managed, ofManager}
-use Rattle.meaning.specs.Demands.{ofThread, pending, requests, place, Without, writes, changes, Gives, last-write, last-unmap, untouched, Linearizes}
+use Rattle.meaning.specs.Demands.{doneBy, ofThread, answeredOps, pending, placedOp, requestOf, requests, place, Without, writes, changes, Gives, last-write, last-unmap, untouched, Linearizes, InRealTime}
 use Rattle.meaning.proofs.Words.{same, either-way, clash, and-left, and-right, naming-once, naming-named}
 use Rattle.meaning.proofs.Invariant.{Inv}
 use Rattle.meaning.proofs.Demand1.{inv-fresh, inv-run}
@@ -48,7 +49,7 @@ use Rattle.meaning.proofs.ManagerView.{owing}
 use Rattle.meaning.proofs.Schedules.{order-append}
 use Rattle.meaning.proofs.ManagerLaws.{obey-reads, obeyAll-append}
 use Rattle.meaning.proofs.ManagerAnswers.{manager-owing, manager-answers}
-use Rattle.meaning.proofs.Requests.{requests-append, requests-ofThread, managed-length, place-first, place-second}
+use Rattle.meaning.proofs.Requests.{those-append, requests-ofThread, managed-length, place-first, place-second}
 use Rattle.meaning.proofs.EachOnce.{each-once}
 
 -- ---- what the manager reads
@@ -163,7 +164,7 @@ module _ (t n p d : ℕ) (limits : inLimits t n p d ≡ true) where
       requests u (order callStore (λ s. s) (fresh t n p d) w) ++ requests u (pending u (run callStore (fresh t n p d) w))
   asked w u =
       let l = order callStore (λ s. s) (fresh t n p d) w in
-      ap (requests u) (each-once t n p d limits w u .begun-once) ∙ requests-append u (ofThread u l) (pending u (run callStore (fresh t n p d) w))
+      ap (requests u) (each-once t n p d limits w u .begun-once) ∙ those-append (requestOf u) (ofThread u l) (pending u (run callStore (fresh t n p d) w))
       ∙ ap (λ r. r ++ requests u (pending u (run callStore (fresh t n p d) w))) (requests-ofThread u l)
 
   -- what a thread has finished has its place, and what has its place is begun
@@ -191,16 +192,16 @@ module _ (t n p d : ℕ) (limits : inLimits t n p d ≡ true) where
   pub real-time : (v v′ : List Entry) (u i u′ i′ : ℕ) →
       i < length (ofManager (finishedBy callStore (λ s. s) (fresh t n p d) u v)) →
       length (requests u′ (begunBy callStore (λ s. s) (fresh t n p d) u′ v)) ≤ i′ →
-      place u (order callStore (λ s. s) (fresh t n p d) (v ++ v′)) i <
-      place u′ (order callStore (λ s. s) (fresh t n p d) (v ++ v′)) i′
+      place (requestOf u) (order callStore (λ s. s) (fresh t n p d) (v ++ v′)) i <
+      place (requestOf u′) (order callStore (λ s. s) (fresh t n p d) (v ++ v′)) i′
   real-time v v′ u i u′ i′ finished unbegun =
       let s = fresh t n p d in
       let l = order callStore (λ s. s) s v in
       let l′ = order callStore (λ s. s) (run callStore s v) v′ in
       let a = finished-placed v u in
       let b = placed-begun v u′ in
-      let x = place-first u l l′ i (omega arith) in
-      let y = place-second u′ l l′ i′ (omega arith) in
+      let x = place-first (requestOf u) l l′ i (omega arith) in
+      let y = place-second (requestOf u′) l l′ i′ (omega arith) in
       rw (real-time-parts v v′) (omega arith)
 
   pub linearizable : (w : List Entry) → Linearizes callStore (λ s. s) (fresh t n p d) w
@@ -210,6 +211,23 @@ module _ (t n p d : ℕ) (limits : inLimits t n p d ≡ true) where
         answers = manager-answers t n p d limits w;
         real-time = λ v v′ whole u i u′ i′ finished unbegun. rw (← whole) (real-time v v′ u i u′ i′ finished unbegun);
       }
+
+  -- the same of all operations, levellings too
+  pub in-real-time : (w : List Entry) → InRealTime callStore (λ s. s) (fresh t n p d) w
+  in-real-time w v v′ whole u i u′ i′ finished unbegun =
+      let s = fresh t n p d in
+      let l = order callStore (λ s. s) s v in
+      let l′ = order callStore (λ s. s) (run callStore s v) v′ in
+      let fin = finishedBy callStore (λ s. s) s u v in
+      let placed =
+      sym (length-map (ofThread u l) (λ o. o .op)) ∙ ap length (each-once t n p d limits v u .finished-once)
+      ∙ length-append (answeredOps fin) (placedOp u (run callStore s v)) in
+      let answered = length-map fin (λ x. x .op) in
+      let begun =
+      ap length (each-once t n p d limits v u′ .begun-once) ∙ length-append (ofThread u′ l) (pending u′ (run callStore s v)) in
+      let x = place-first (doneBy u) l l′ i (omega arith) in
+      let y = place-second (doneBy u′) l l′ i′ (omega arith) in
+      rw (← whole) (rw (real-time-parts v v′) (omega arith))
 
 -- ---- what a read that has finished gave
 

@@ -1,5 +1,5 @@
--- Laws of a thread's reads, writes and unmaps in a list of operations (`requests`): where each stands, and that the manager answers each.
--- Nothing here speaks of a store. Assumes nothing.
+-- Laws of those operations of a list that pass a test, such as a thread's reads, writes and unmaps (`requests`): where each stands, and that
+-- the manager answers each request. Nothing here speaks of a store. Assumes nothing.
 use mathlib.Core.Path.{_≡_, refl, sym, ap, _∙_}
 use mathlib.Core.Bool.{Bool, true, false, not}
 use mathlib.Core.List.{List, [], _∷_, _++_, map}
@@ -10,12 +10,12 @@ use lib.ListN.{length, getD, length-map}
 use Rattle.meaning.specs.Programs.{LEVEL}
 use Rattle.meaning.specs.Manager.{Manager}
 use Rattle.meaning.specs.Schedule.{Operation, emit, obey, managed}
-use Rattle.meaning.specs.Demands.{ofThread, requestOf, requests, placeFrom, place}
+use Rattle.meaning.specs.Demands.{those, ofThread, requestOf, requests, placeFrom, place}
 use Rattle.meaning.proofs.Words.{either-way}
 
-pub requests-append : (u : ℕ) (l l′ : List Operation) → requests u (l ++ l′) ≡ requests u l ++ requests u l′
-requests-append u [] l′ = refl
-requests-append u (o ∷ l) l′ = either-way (requestOf u o) (λ x. rw (x, requests-append u l l′)) (λ x. rw x (requests-append u l l′))
+pub those-append : (test : Operation → Bool) (l l′ : List Operation) → those test (l ++ l′) ≡ those test l ++ those test l′
+those-append test [] l′ = refl
+those-append test (o ∷ l) l′ = either-way (test o) (λ x. rw (x, those-append test l l′)) (λ x. rw x (those-append test l l′))
 
 pub requests-ofThread : (u : ℕ) (l : List Operation) → requests u (ofThread u l) ≡ requests u l
 requests-ofThread u [] = refl
@@ -33,7 +33,7 @@ pub managed-length : (m : Manager) (u : ℕ) (l : List Operation) → length (ma
 managed-length m u l =
     sym (length-map (managed m u l) (λ x. x .op)) ∙ ap length (managed-ops m u l) ∙ length-map (requests u l) (λ o. o .op)
 
--- what stands at the place of a request is the request
+-- what stands at the place of one that passes the test is that one
 from-place : (o : Operation) (r l : List Operation) (later : ℕ → ℕ) (none : Operation) →
     ((j : ℕ) → j < length r → getD l (later j) none ≡ getD r j none) → (mine : Bool) (i : ℕ) → i < length (emit mine o r) →
     getD (o ∷ l) (placeFrom mine i later) none ≡ getD (emit mine o r) i none
@@ -41,23 +41,23 @@ from-place o r l later none rest true zero b = refl
 from-place o r l later none rest true (suc i) b = rest i (omega arith)
 from-place o r l later none rest false i b = rest i b
 
-pub place-holds : (u : ℕ) (l : List Operation) (none : Operation) (i : ℕ) → i < length (requests u l) →
-    getD l (place u l i) none ≡ getD (requests u l) i none
-place-holds u [] none i b = absurd (omega arith)
-place-holds u (o ∷ l) none i b =
-    from-place o (requests u l) l (place u l) none (place-holds u l none) (requestOf u o) i b
+pub place-holds : (test : Operation → Bool) (l : List Operation) (none : Operation) (i : ℕ) → i < length (those test l) →
+    getD l (place test l i) none ≡ getD (those test l) i none
+place-holds test [] none i b = absurd (omega arith)
+place-holds test (o ∷ l) none i b =
+    from-place o (those test l) l (place test l) none (place-holds test l none) (test o) i b
 
--- a request that the first list has stands in it, and one that it has not stands after it
+-- one that the first list has stands in it, and one that it has not stands after it
 from-first : (o : Operation) (r : List Operation) (later : ℕ → ℕ) (n : ℕ) → ((j : ℕ) → j < length r → later j < n) →
     (mine : Bool) (i : ℕ) → i < length (emit mine o r) → placeFrom mine i later < suc n
 from-first o r later n rest true zero b = omega arith
 from-first o r later n rest true (suc i) b = let x = rest i (omega arith) in omega arith
 from-first o r later n rest false i b = let x = rest i b in omega arith
 
-pub place-first : (u : ℕ) (l l′ : List Operation) (i : ℕ) → i < length (requests u l) → place u (l ++ l′) i < length l
-place-first u [] l′ i b = absurd (omega arith)
-place-first u (o ∷ l) l′ i b =
-    from-first o (requests u l) (place u (l ++ l′)) (length l) (place-first u l l′) (requestOf u o) i b
+pub place-first : (test : Operation → Bool) (l l′ : List Operation) (i : ℕ) → i < length (those test l) → place test (l ++ l′) i < length l
+place-first test [] l′ i b = absurd (omega arith)
+place-first test (o ∷ l) l′ i b =
+    from-first o (those test l) (place test (l ++ l′)) (length l) (place-first test l l′) (test o) i b
 
 from-second : (o : Operation) (r : List Operation) (later : ℕ → ℕ) (n : ℕ) → ((j : ℕ) → length r ≤ j → n ≤ later j) →
     (mine : Bool) (i : ℕ) → length (emit mine o r) ≤ i → suc n ≤ placeFrom mine i later
@@ -65,7 +65,7 @@ from-second o r later n rest true zero b = absurd (omega arith)
 from-second o r later n rest true (suc i) b = let x = rest i (omega arith) in omega arith
 from-second o r later n rest false i b = let x = rest i b in omega arith
 
-pub place-second : (u : ℕ) (l l′ : List Operation) (i : ℕ) → length (requests u l) ≤ i → length l ≤ place u (l ++ l′) i
-place-second u [] l′ i b = omega arith
-place-second u (o ∷ l) l′ i b =
-    from-second o (requests u l) (place u (l ++ l′)) (length l) (place-second u l l′) (requestOf u o) i b
+pub place-second : (test : Operation → Bool) (l l′ : List Operation) (i : ℕ) → length (those test l) ≤ i → length l ≤ place test (l ++ l′) i
+place-second test [] l′ i b = omega arith
+place-second test (o ∷ l) l′ i b =
+    from-second o (those test l) (place test (l ++ l′)) (length l) (place-second test l l′) (test o) i b

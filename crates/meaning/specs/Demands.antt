@@ -29,9 +29,16 @@ leavesAlone r = eqb (r .op) LEVEL || eqb (r .op) READ
 
 -- ---- a thread's operations
 
+-- those of a list that pass the test
+abbrev pub those : (Operation → Bool) → List Operation → List Operation
+those test [] = []
+those test (o ∷ l) = emit (test o) o (those test l)
+
+abbrev pub doneBy : ℕ → Operation → Bool
+doneBy u o = eqb (o .thread) u
+
 abbrev pub ofThread : ℕ → List Operation → List Operation
-ofThread u [] = []
-ofThread u (o ∷ l) = emit (eqb (o .thread) u) o (ofThread u l)
+ofThread u = those (doneBy u)
 
 -- which of the four each is
 abbrev pub ops : List Operation → List ℕ
@@ -59,22 +66,26 @@ pub data Owed (s : Store) (u : ℕ) (l : List Answered) : Type 0 where
 
 -- of thread u's
 abbrev pub requestOf : ℕ → Operation → Bool
-requestOf u o = eqb (o .thread) u && not (eqb (o .op) LEVEL)
+requestOf u o = doneBy u o && not (eqb (o .op) LEVEL)
 
 abbrev pub requests : ℕ → List Operation → List Operation
-requests u [] = []
-requests u (o ∷ l) = emit (requestOf u o) o (requests u l)
+requests u = those (requestOf u)
 
--- the place of u's request number i, counted from 0, if o is the next operation; `later j` is the place of number j after o
+-- ---- places in the order
+
+-- the place of number i of those that pass a test, counted from 0, if the next operation does or doesn't; `later j` is the place of number j
+-- after it
 abbrev pub placeFrom : Bool → ℕ → (ℕ → ℕ) → ℕ
 placeFrom true zero later = 0
 placeFrom true (suc i) later = suc (later i)
 placeFrom false i later = suc (later i)
 
--- the place of u's request number i in a list, or the list's length where it has none
-abbrev pub place : ℕ → List Operation → ℕ → ℕ
-place u [] i = 0
-place u (o ∷ l) i = placeFrom (requestOf u o) i (place u l)
+-- the place of number i of those that pass the test in a list, or the list's length where there are not so many
+abbrev pub place : (Operation → Bool) → List Operation → ℕ → ℕ
+place test [] i = 0
+place test (o ∷ l) i = placeFrom (test o) i (place test l)
+
+-- ---- what a read gives
 
 -- no operation of the list passes the test
 abbrev pub Without : (Operation → Bool) → List Operation → Type 0
@@ -123,7 +134,13 @@ module _ {S : Type 0} (call : S → Entry → Reply S) (seen : S → Store) (s :
     -- L2: what has finished in the first part v of the schedule stands before what has not begun there
     pub real-time : (v v′ : List Entry) → v ++ v′ ≡ w → (u i u′ i′ : ℕ) → i < length (ofManager (finishedBy call seen s u v)) →
         length (requests u′ (begunBy call seen s u′ v)) ≤ i′ →
-        place u (order call seen s w) i < place u′ (order call seen s w) i′
+        place (requestOf u) (order call seen s w) i < place (requestOf u′) (order call seen s w) i′
+
+  -- L2 of all operations, levellings too
+  abbrev pub InRealTime : Type 0
+  InRealTime = (v v′ : List Entry) → v ++ v′ ≡ w → (u i u′ i′ : ℕ) → i < length (finishedBy call seen s u v) →
+      length (begunBy call seen s u′ v) ≤ i′ →
+      place (doneBy u) (order call seen s w) i < place (doneBy u′) (order call seen s w) i′
 
   -- the operations of the order of last locks, run whole one after the other
   abbrev pub one-by-one : List Entry

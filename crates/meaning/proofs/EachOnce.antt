@@ -32,7 +32,7 @@ use Rattle.meaning.proofs.Places.{Went, went, over, Came, going-came, f
 use Rattle.meaning.proofs.Settles.{stepped, stepped-is}
 use Rattle.meaning.proofs.LastLock.{work}
 use Rattle.meaning.proofs.Requests.{those-append}
-use Rattle.meaning.proofs.Schedules.{step-stays, refused-number, emit-append, placing-append, starting-append, finishing-append}
+use Rattle.meaning.proofs.Schedules.{step-stays, refused-number, placing-append, starting-append, finishing-append}
 
 -- ---- a step that takes a last lock takes a lock
 

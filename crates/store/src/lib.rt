@@ -2,10 +2,9 @@
 // each table. What an area means stands in specs/Area.antt; every contract below is an equality with a definition there.
 ghost use mathlib.Core.Path.{_≡_};
 ghost use Prim.Native.Nat.{_+_, _*_, _<_, _≤_};
-ghost use lib.ListN.{length};
 ghost use lib.Dec.{leb};
 ghost use Rattle.meaning.specs.Table.{every};
-ghost use Rattle.meaning.specs.Limits.{least, mostThreads, mostNumbers, mostBlocks, inLimits};
+ghost use Rattle.meaning.specs.Limits.{mostThreads, mostNumbers, mostBlocks, inLimits};
 ghost use Rattle.meaning.specs.Programs.{lastLine};
 ghost use Rattle.store.specs.Layout.{threadsAt, threadWords, mapAt, locksAt, blocksAt, size};
 ghost use Rattle.store.specs.Area.{word, threadFrom, column, decode, soundThread, inBounds, wellFormed};

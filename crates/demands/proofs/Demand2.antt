@@ -5,6 +5,7 @@
 --    that order says, and what has finished before another operation is begun stands before it (`real-time`).
 --    How their definition is met field by field is said at the head of the crate meaning's proofs/Linearizable.
 --  * area-real-time: that last part by itself. Request i of thread u has finished within v, request i′ of thread u′ has not begun there.
+--  * area-in-real-time: the same of all operations, levellings too.
 --  * area-read-gives: a read that has finished gave the word of the last write of its number before it in that order, and 0 if an
 --    unmap came after that write or if there is none.
 --  * area-manager-holds: what a number's block holds is what the manager holds of it, wherever no writer and no unmapper has its lock;
@@ -62,8 +63,6 @@ module _ (a : List ℕ) (f : Formatted a) (w : List Entry) (x : AllWords w) wher
             (rw (begunBy-decoded a g u′ v y) at unbegun));
       }
 
-  -- A read of thread u that stands in the order after operations l is u's request number `length (requests u l)`, counted from 0.
-
   pub area-real-time :
       (v v′ : List Entry) → v ++ v′ ≡ w → (u i u′ i′ : ℕ) → i < length (ofManager (finishedBy callArea decode a u v)) →
       length (requests u′ (begunBy callArea decode a u′ v)) ≤ i′ →
@@ -79,6 +78,7 @@ module _ (a : List ℕ) (f : Formatted a) (w : List Entry) (x : AllWords w) wher
       rw (order-decoded a g w x)
       (L v v′ whole u i u′ i′ (rw (finishedBy-decoded a g u v y) at finished) (rw (begunBy-decoded a g u′ v y) at unbegun))
 
+  -- A read of thread u that stands in the order after operations l is u's request number `length (requests u l)`, counted from 0.
   pub area-read-gives : (u : ℕ) (l : List Operation) (o : Operation) (l′ : List Operation) →
       order callArea decode a w ≡ l ++ (o ∷ l′) → o .op ≡ READ → o .thread ≡ u →
       length (requests u l) < length (ofManager (finishedBy callArea decode a u w)) → (none : Answered) →

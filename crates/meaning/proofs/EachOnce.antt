@@ -20,7 +20,7 @@ use Rattle.meaning.specs.Programs.{WRITE, LEVEL, lastLine, actAt, lastTa
 use Rattle.meaning.specs.Step.{nothing, apply}
 use Rattle.meaning.specs.Call.{Entry, begin, step, callStore, isIdle, begun, storedN, storedC, reply}
 use Rattle.meaning.specs.Schedule.{Operation, Answered, operation, emit, takesLast, placed, run, placing, starting, finishing, order, begunBy, finishedBy}
-use Rattle.meaning.specs.Demands.{doneBy, ofThread, ops, answeredOps, pending, placedOp, EachOnce}
+use Rattle.meaning.specs.Demands.{byThread, ofThread, ops, answeredOps, pending, placedOp, EachOnce}
 use Rattle.meaning.proofs.Words.{same, either-way, and-left, and-right, or-way, within-true, upd-same, upd-other}
 use Rattle.meaning.proofs.Called.{by-begin, refused-not}
 use Rattle.meaning.proofs.Invariant.{Inv}
@@ -249,7 +249,7 @@ module _ (u : ℕ) where
   order-more s e w =
       let rest = order callStore (λ s. s) (callStore s e .after) w in
       ap (ofThread u) (sym (placing-append callStore (λ s. s) s e [] rest))
-      ∙ those-append (doneBy u) (placing callStore (λ s. s) s e []) rest
+      ∙ those-append (byThread u) (placing callStore (λ s. s) s e []) rest
 
   begun-all : (w : List Entry) (s : Store) → Inv s →
       pending u s ++ begunBy callStore (λ s. s) s u w ≡ its-order s w ++ pending u (run callStore s w)

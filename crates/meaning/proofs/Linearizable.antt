@@ -41,7 +41,7 @@ use Rattle.meaning.specs.Programs.{WRITE, READ, UNMAP, LEVEL}
 use Rattle.meaning.specs.Call.{Entry, callStore}
 use Rattle.meaning.specs.Manager.{Manager, empty, initial, ebmRead}
 use Rattle.meaning.specs.Schedule.{Operation, Answered, run, order, begunBy, finishedBy, obey, obeyAll, managed, ofManager}
-use Rattle.meaning.specs.Demands.{doneBy, ofThread, answeredOps, pending, placedOp, requestOf, requests, place, Without, writes, changes, Gives, last-write, last-unmap, untouched, Linearizes, InRealTime}
+use Rattle.meaning.specs.Demands.{byThread, ofThread, answeredOps, pending, placedOp, requestOf, requests, place, Without, writes, changes, Gives, last-write, last-unmap, untouched, Linearizes, InRealTime}
 use Rattle.meaning.proofs.Words.{same, either-way, clash, and-left, and-right, naming-once, naming-named}
 use Rattle.meaning.proofs.Invariant.{Inv}
 use Rattle.meaning.proofs.Demand1.{inv-fresh, inv-run}
@@ -225,8 +225,8 @@ module _ (t n p d : ℕ) (limits : inLimits t n p d ≡ true) where
       let answered = length-map fin (λ x. x .op) in
       let begun =
       ap length (each-once t n p d limits v u′ .begun-once) ∙ length-append (ofThread u′ l) (pending u′ (run callStore s v)) in
-      let x = place-first (doneBy u) l l′ i (omega arith) in
-      let y = place-second (doneBy u′) l l′ i′ (omega arith) in
+      let x = place-first (byThread u) l l′ i (omega arith) in
+      let y = place-second (byThread u′) l l′ i′ (omega arith) in
       rw (← whole) (rw (real-time-parts v v′) (omega arith))
 
 -- ---- what a read that has finished gave

@@ -34,11 +34,11 @@ abbrev pub those : (Operation → Bool) → List Operation → List Operation
 those test [] = []
 those test (o ∷ l) = emit (test o) o (those test l)
 
-abbrev pub doneBy : ℕ → Operation → Bool
-doneBy u o = eqb (o .thread) u
+abbrev pub byThread : ℕ → Operation → Bool
+byThread u o = eqb (o .thread) u
 
 abbrev pub ofThread : ℕ → List Operation → List Operation
-ofThread u = those (doneBy u)
+ofThread u = those (byThread u)
 
 -- which of the four each is
 abbrev pub ops : List Operation → List ℕ
@@ -66,7 +66,7 @@ pub data Owed (s : Store) (u : ℕ) (l : List Answered) : Type 0 where
 
 -- of thread u's
 abbrev pub requestOf : ℕ → Operation → Bool
-requestOf u o = doneBy u o && not (eqb (o .op) LEVEL)
+requestOf u o = byThread u o && not (eqb (o .op) LEVEL)
 
 abbrev pub requests : ℕ → List Operation → List Operation
 requests u = those (requestOf u)
@@ -140,7 +140,7 @@ module _ {S : Type 0} (call : S → Entry → Reply S) (seen : S → Store) (s :
   abbrev pub InRealTime : Type 0
   InRealTime = (v v′ : List Entry) → v ++ v′ ≡ w → (u i u′ i′ : ℕ) → i < length (finishedBy call seen s u v) →
       length (begunBy call seen s u′ v) ≤ i′ →
-      place (doneBy u) (order call seen s w) i < place (doneBy u′) (order call seen s w) i′
+      place (byThread u) (order call seen s w) i < place (byThread u′) (order call seen s w) i′
 
   -- the operations of the order of last locks, run whole one after the other
   abbrev pub one-by-one : List Entry

@@ -71,7 +71,7 @@
  *
  * LINKING
  *
- *     cc -std=c99 -Iinclude yours.c target/staticlib/libdoor.a
+ *     cc -std=c99 -Iinclude yours.c target/staticlib/libkernelsun.a
  *
  * The library is for x86-64 with the calling convention of Linux; it may be
  * part of a position-independent program. It takes the names format, begin and

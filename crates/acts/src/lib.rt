@@ -10,9 +10,9 @@ ghost use Rattle.meaning.specs.Step.{goto as gotoOf, onward as onwardOf, setN, 
 use meaning::Act;
 use meaning::Answer;
 use meaning::Effect;
-use meaning::Entry;
-use meaning::Entry::Keep;
-use meaning::Entry::Put;
+use meaning::Update;
+use meaning::Update::Keep;
+use meaning::Update::Put;
 use meaning::Reg;
 use meaning::Thread;
 use meaning::Verdict;
@@ -174,12 +174,12 @@ pub fn block(b: Reg, r: Thread) -> u32
 fn effect(
     lock: Word,
     owner: Word,
-    map: Entry,
-    locks: Entry,
-    header: Entry,
-    content: Entry,
-    wear: Entry,
-    own: Entry,
+    map: Update,
+    locks: Update,
+    header: Update,
+    content: Update,
+    wear: Update,
+    own: Update,
 ) -> Effect
     ensures { λ e. ⌜ e ≡ effectOf lock owner map locks header content wear own ⌝ }
 {

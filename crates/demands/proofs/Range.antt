@@ -15,8 +15,8 @@ use Rattle.meaning.specs.declared.Act.the-variants.{Nothing, TakeH, ReleaseH, F
 use Rattle.meaning.specs.declared.Thread.{Thread}
 use Rattle.meaning.specs.declared.Word.{Word}
 use Rattle.meaning.specs.declared.Word.the-variants.{Stay, Become}
-use Rattle.meaning.specs.declared.Entry.{Entry}
-use Rattle.meaning.specs.declared.Entry.the-variants.{Keep, Put}
+use Rattle.meaning.specs.declared.Update.{Update}
+use Rattle.meaning.specs.declared.Update.the-variants.{Keep, Put}
 use Rattle.meaning.specs.declared.Effect.{Effect}
 use Rattle.meaning.specs.declared.Verdict.{Verdict}
 use Rattle.meaning.specs.declared.Verdict.the-variants.{Blocked, Fault, Go, Done}
@@ -28,7 +28,7 @@ use Rattle.meaning.specs.Holding.{free, heldBy, named}
 use Rattle.meaning.specs.Programs.{WRITE, LEVEL, lastLine, actAt}
 use Rattle.meaning.specs.Choosing.{lowestFree, best, toBlock, leastWorn, fromBlock}
 use Rattle.meaning.specs.Step.{block, nothing, worn, touches, heads, choosing, perform, verdict, become, put, apply}
-use Rattle.meaning.specs.Call.{Outcome, refused, left, isIdle, storedN, storedC, begun, told, Entry as Call, begin, step, calling}
+use Rattle.meaning.specs.Call.{Outcome, refused, left, isIdle, storedN, storedC, begun, told, Entry, begin, step, calling}
 use Rattle.meaning.specs.Schedule.{Words}
 use Rattle.meaning.proofs.Words.{clash, and-left, and-right, within-true, either-way, upd-each, named-below}
 use Rattle.meaning.proofs.Invariant.{Changes, Puts, Stands}
@@ -59,7 +59,7 @@ become-low : (c : Word) (w bound : ℕ) → Changes c (λ w. w ≤ bound) → w 
 become-low Stay w bound x low = low
 become-low (Become w′) w bound x low = x
 
-put-cell : (size bound : ℕ) (c : Entry) (f : ℕ → ℕ) → Puts c (λ k w. (k < size) × (w ≤ bound)) →
+put-cell : (size bound : ℕ) (c : Update) (f : ℕ → ℕ) → Puts c (λ k w. (k < size) × (w ≤ bound)) →
     ((k : ℕ) → Cell size bound k (f k)) → (k : ℕ) → Cell size bound k (put c f k)
 put-cell size bound Keep f x all = all
 put-cell size bound (Put i w) f x all =
@@ -305,7 +305,7 @@ module _ (s : Store) (R : Ranged s) (t : ℕ) (below : t < s .threads) where
       } in
       apply-ranged s R t below (begun op n c) nothing (search (arith, inr))
 
-pub calling-ranged : (s : Store) → Ranged s → (e : Call) → Words e → Leaves (calling s e)
+pub calling-ranged : (s : Store) → Ranged s → (e : Entry) → Words e → Leaves (calling s e)
 calling-ranged s R (begin t op n c) w =
     by-begin Leaves s t op n c (λ _ _. tt) (λ b _ y z. begin-ranged s R t b op n c (w .3) y z)
 calling-ranged s R (step t) w = by-step Leaves s t (λ _ _. tt) (λ b x. step-ranged s R t b x)

@@ -1,5 +1,5 @@
 -- The laws that the machine's proofs cite.
 pub mod Search
 pub mod Registers
-pub mod Reaching
-pub mod Placing
+pub mod Storing
+pub mod Inside

@@ -4,8 +4,8 @@ use mathlib.Core.Path.{_≡_}
 use Prim.Native.Nat.{ℕ}
 use Rattle.meaning.specs.declared.Word.{Word}
 use Rattle.meaning.specs.declared.Word.the-variants.{Stay}
-use Rattle.meaning.specs.declared.Entry.{Entry}
-use Rattle.meaning.specs.declared.Entry.the-variants.{Keep}
+use Rattle.meaning.specs.declared.Update.{Update}
+use Rattle.meaning.specs.declared.Update.the-variants.{Keep}
 use Rattle.meaning.specs.declared.Effect.{Effect}
 use Rattle.meaning.specs.Store.{Store}
 use Rattle.meaning.specs.Step.{effect}
@@ -13,7 +13,7 @@ use Rattle.store.specs.Area.{Bytes, decode}
 use Rattle.store.specs.Live.{Live, EntryBelow}
 
 -- the effect's entries are below their tables' sizes
-pub record Places (n p : ℕ) (e : Effect) : Type 0 where
+pub record EffectInside (n p : ℕ) (e : Effect) : Type 0 where
   pub map : EntryBelow n (e .map)
   pub locks : EntryBelow n (e .locks)
   pub header : EntryBelow p (e .header)
@@ -22,14 +22,14 @@ pub record Places (n p : ℕ) (e : Effect) : Type 0 where
   pub own : EntryBelow p (e .own)
 
 -- area b holds store s, with the sizes that area a had, and is of bytes where a is
-pub record Reached (a b : List ℕ) (t n p : ℕ) (s : Store) : Type 0 where
+pub record Stored (a b : List ℕ) (t n p : ℕ) (s : Store) : Type 0 where
   pub decoded : decode b ≡ s
   pub live : Live b t n p
   pub bytes : Bytes a → Bytes b
 
 -- what touches no block, and what touches nothing else
-abbrev pub unblocked : Word → Word → Entry → Entry → Effect
+abbrev pub unblocked : Word → Word → Update → Update → Effect
 unblocked lock owner map locks = effect lock owner map locks Keep Keep Keep Keep
 
-abbrev pub onBlocks : Entry → Entry → Entry → Entry → Effect
+abbrev pub onBlocks : Update → Update → Update → Update → Effect
 onBlocks header content wear own = effect Stay Stay Keep Keep header content wear own

@@ -1,4 +1,4 @@
-// The step machine on the working store: the searches, what a line would do (`perform`, `judge`) and doing it (`settle`).
+// The step machine on the working store: the searches, what a line would do (`judge_act`, `judge`) and doing it (`settle`).
 // The definitions are those of the crate meaning, specs/Choosing.antt and specs/Step.antt.
 ghost use mathlib.Core.Path.{_≡_};
 ghost use Prim.Native.Nat.{_<_, _≤_};
@@ -6,9 +6,9 @@ ghost use Rattle.meaning.specs.Store.{Store as StoreOf};
 ghost use Rattle.meaning.specs.Limits.{mostNumbers, mostBlocks, mostWord};
 ghost use Rattle.meaning.specs.Programs.{actAt};
 ghost use Rattle.meaning.specs.Choosing.{lowestFree, fromBlock};
-ghost use Rattle.meaning.specs.Step.{perform as performOf, apply as applyOf};
-ghost use Rattle.store.specs.Live.{table, headers, wears, Live, EntryBelow, made};
-ghost use Rattle.machine.specs.Settling.{Places, Reached, unblocked, onBlocks};
+ghost use Rattle.meaning.specs.Step.{perform, apply as applyOf};
+ghost use Rattle.store.specs.Live.{table, headers, wears, Live, EntryBelow, withEffect};
+ghost use Rattle.machine.specs.Settling.{EffectInside, Stored, unblocked, onBlocks};
 ghost use Rattle.store.specs.Area.{decode};
 ghost use Rattle.machine.specs.Judging.{placeOf, weightOf, soughtBy, chosenOf, pickedOf, ownOf, headerOf, headsOf, touchesOf, Sees, Searches, nearOf, Steady, AtLine};
 use acts::answer;
@@ -38,7 +38,7 @@ use acts::worn;
 use meaning::Act;
 use meaning::Act::*;
 use meaning::Effect;
-use meaning::Entry;
+use meaning::Update;
 use meaning::Found;
 use meaning::Reg;
 use meaning::Reg::P;
@@ -212,9 +212,9 @@ fn pick(records: &Records, blocks: u32, r: Thread) -> Verdict
 }
 
 // What the act would do: an arm an act, as in specs/Step.antt. `me` is the word of what thread t holds or owns.
-fn perform(act: Act, t: u32, r: Thread, x: Near, records: &Records) -> Verdict
+fn judge_act(act: Act, t: u32, r: Thread, x: Near, records: &Records) -> Verdict
     requires { ⌜ Steady t r × (x .blocks ≤ mostBlocks) ⌝ }
-    ensures { λ y. ⌜ ((s : StoreOf) → Sees s r x → Searches s (headers (now (records .entry))) (wears (now (records .entry))) → y ≡ performOf act s t r) ⌝ }
+    ensures { λ y. ⌜ ((s : StoreOf) → Sees s r x → Searches s (headers (now (records .entry))) (wears (now (records .entry))) → y ≡ perform act s t r) ⌝ }
 {
     let me = t + 1;
     match act {
@@ -290,7 +290,7 @@ pub struct Sizes {
 // What thread t's next line would do to the store that the area holds.
 pub fn judge(area: &[u8], z: Sizes, t: u32, r: Thread) -> Verdict
     requires { ⌜ Live (now area) (z .t) (z .n) (z .p) × Steady t r × AtLine r ⌝ }
-    ensures { λ v. ⌜ v ≡ performOf (actAt (r .op) (r .line)) (decode (now (area .entry))) t r ⌝ }
+    ensures { λ v. ⌜ v ≡ perform (actAt (r .op) (r .line)) (decode (now (area .entry))) t r ⌝ }
 {
     // The act is looked up first, which measured some 10 ns faster than after the fill: its table is made on the stack.
     let act = acts::act_at(r.op, r.line);
@@ -312,15 +312,15 @@ pub fn judge(area: &[u8], z: Sizes, t: u32, r: Thread) -> Verdict
     store::read_numbers(area, locks, numbers, &mut s.locks);
     store::read_blocks(area, blocks, cells, &mut s.blocks);
     let near = words_near(r, s.p, s.d, s.lock, s.owner, &s.map, &s.locks, &s.blocks);
-    perform(act, t, r, near, &s.blocks)
+    judge_act(act, t, r, near, &s.blocks)
 }
 
 // ---- doing it
 
 // What becomes of H, the headers' owner, the map and the block locks.
-fn settle_numbers(area: &mut [u8], z: Sizes, lock: Word, owner: Word, map: Entry, locks: Entry)
+fn settle_numbers(area: &mut [u8], z: Sizes, lock: Word, owner: Word, map: Update, locks: Update)
     requires { ⌜ Live (now area) (z .t) (z .n) (z .p) × EntryBelow (z .n) map × EntryBelow (z .n) locks ⌝ }
-    ensures { λ _. ⌜ Reached (now (area .entry)) (now (area .exit)) (z .t) (z .n) (z .p) (made (decode (now (area .entry))) (unblocked lock owner map locks)) ⌝ }
+    ensures { λ _. ⌜ Stored (now (area .entry)) (now (area .exit)) (z .t) (z .n) (z .p) (withEffect (decode (now (area .entry))) (unblocked lock owner map locks)) ⌝ }
 {
     let t = z.t;
     let n = z.n;
@@ -333,9 +333,9 @@ fn settle_numbers(area: &mut [u8], z: Sizes, lock: Word, owner: Word, map: Entry
 }
 
 // What becomes of the blocks.
-fn settle_blocks(area: &mut [u8], z: Sizes, header: Entry, content: Entry, wear: Entry, own: Entry)
+fn settle_blocks(area: &mut [u8], z: Sizes, header: Update, content: Update, wear: Update, own: Update)
     requires { ⌜ Live (now area) (z .t) (z .n) (z .p) × EntryBelow (z .p) header × EntryBelow (z .p) content × EntryBelow (z .p) wear × EntryBelow (z .p) own ⌝ }
-    ensures { λ _. ⌜ Reached (now (area .entry)) (now (area .exit)) (z .t) (z .n) (z .p) (made (decode (now (area .entry))) (onBlocks header content wear own)) ⌝ }
+    ensures { λ _. ⌜ Stored (now (area .entry)) (now (area .exit)) (z .t) (z .n) (z .p) (withEffect (decode (now (area .entry))) (onBlocks header content wear own)) ⌝ }
 {
     let t = z.t;
     let n = z.n;
@@ -348,8 +348,8 @@ fn settle_blocks(area: &mut [u8], z: Sizes, header: Entry, content: Entry, wear:
 
 // Thread k's record and an effect.
 pub fn settle(area: &mut [u8], z: Sizes, k: usize, r: Thread, e: Effect)
-    requires { ⌜ Live (now area) (z .t) (z .n) (z .p) × (k < z .t) × Places (z .n) (z .p) e ⌝ }
-    ensures { λ _. ⌜ Reached (now (area .entry)) (now (area .exit)) (z .t) (z .n) (z .p) (applyOf (decode (now (area .entry))) k r e) ⌝ }
+    requires { ⌜ Live (now area) (z .t) (z .n) (z .p) × (k < z .t) × EffectInside (z .n) (z .p) e ⌝ }
+    ensures { λ _. ⌜ Stored (now (area .entry)) (now (area .exit)) (z .t) (z .n) (z .p) (applyOf (decode (now (area .entry))) k r e) ⌝ }
 {
     let lock = e.lock;
     let owner = e.owner;

@@ -13,8 +13,8 @@ use Rattle.meaning.specs.declared.Act.the-variants.{Nothing, TakeH, Rele
 use Rattle.meaning.specs.declared.Thread.{Thread}
 use Rattle.meaning.specs.declared.Word.{Word}
 use Rattle.meaning.specs.declared.Word.the-variants.{Stay, Become}
-use Rattle.meaning.specs.declared.Entry.{Entry}
-use Rattle.meaning.specs.declared.Entry.the-variants.{Keep, Put}
+use Rattle.meaning.specs.declared.Update.{Update}
+use Rattle.meaning.specs.declared.Update.the-variants.{Keep, Put}
 use Rattle.meaning.specs.declared.Effect.{Effect}
 use Rattle.meaning.specs.declared.Verdict.the-variants.{Blocked, Fault}
 use Rattle.meaning.specs.Table.{upd}
@@ -108,7 +108,7 @@ word-alone : (about : Type 0) (t : ℕ) (c : Word) (w : ℕ) → Changes c (Pass
 word-alone about t Stay w x = refl
 word-alone about t (Become w′) w x = passes-mine t w w′ x
 
-entry-alone : (about : ℕ → Type 0) (t : ℕ) (c : Entry) (f : ℕ → ℕ) → Puts c (λ k. Passes (about k) t (f k)) →
+entry-alone : (about : ℕ → Type 0) (t : ℕ) (c : Update) (f : ℕ → ℕ) → Puts c (λ k. Passes (about k) t (f k)) →
     put c (λ k. mine t (f k)) ≡ (λ k. mine t (put c f k))
 entry-alone about t Keep f x = refl
 entry-alone about t (Put i w) f x =

@@ -14,8 +14,8 @@ use Rattle.meaning.specs.declared.Act.the-variants.{Nothing, TakeH, Rele
 use Rattle.meaning.specs.declared.Thread.{Thread}
 use Rattle.meaning.specs.declared.Word.{Word}
 use Rattle.meaning.specs.declared.Word.the-variants.{Stay, Become}
-use Rattle.meaning.specs.declared.Entry.{Entry}
-use Rattle.meaning.specs.declared.Entry.the-variants.{Keep, Put}
+use Rattle.meaning.specs.declared.Update.{Update}
+use Rattle.meaning.specs.declared.Update.the-variants.{Keep, Put}
 use Rattle.meaning.specs.declared.Effect.{Effect}
 use Rattle.meaning.specs.declared.Verdict.{Verdict}
 use Rattle.meaning.specs.declared.Verdict.the-variants.{Blocked, Fault, Go, Done}
@@ -96,7 +96,7 @@ free-kept about t Stay w x never f = f
 free-kept about t (Become w′) w (takes _ y _) never f = absurd (never y)
 free-kept about t (Become w′) w (gives _ e) never f = rw e
 
-entry-free-kept : (about : ℕ → Type 0) (t : ℕ) (c : Entry) (f : ℕ → ℕ) → Puts c (λ k. Passes (about k) t (f k)) →
+entry-free-kept : (about : ℕ → Type 0) (t : ℕ) (c : Update) (f : ℕ → ℕ) → Puts c (λ k. Passes (about k) t (f k)) →
     (k : ℕ) → (about k → ⊥) → free (f k) ≡ true → free (put c f k) ≡ true
 entry-free-kept about t Keep f x k = λ never y. y
 entry-free-kept about t (Put i w) f x k =
@@ -215,7 +215,7 @@ module _ (t u : ℕ) (apart : t ≡ u → ⊥) where
   words-commute a b (Become v) Stay w x y z = refl
   words-commute a b (Become v) (Become v′) w x y z = absurd (passes-apart w v v′ x y z)
 
-  entries-commute : (a b : ℕ → Type 0) (c d : Entry) (f : ℕ → ℕ) → Puts c (λ k. Passes (a k) t (f k)) →
+  entries-commute : (a b : ℕ → Type 0) (c d : Update) (f : ℕ → ℕ) → Puts c (λ k. Passes (a k) t (f k)) →
       Puts d (λ k. Passes (b k) u (f k)) → Puts d (λ k. Passes (b k) u (put c f k)) → put d (put c f) ≡ put c (put d f)
   entries-commute a b Keep d f x y z = refl
   entries-commute a b (Put i v) Keep f x y z = refl
@@ -224,7 +224,7 @@ module _ (t u : ℕ) (apart : t ≡ u → ⊥) where
       (λ e. passes-apart (f i) v w x (subst (λ (k : ℕ). Passes (b k) u (f k) w) (sym e) y) (rw (eq-eqb i j e) at z))
 
   -- g and h guard the entries, and nobody has both
-  tables-commute : (g h : ℕ → Type 0) → ((k : ℕ) → g k → h k → ⊥) → (c d : Entry) (f : ℕ → ℕ) → Puts c (λ k _. g k) →
+  tables-commute : (g h : ℕ → Type 0) → ((k : ℕ) → g k → h k → ⊥) → (c d : Update) (f : ℕ → ℕ) → Puts c (λ k _. g k) →
       Puts d (λ k _. h k) → put d (put c f) ≡ put c (put d f)
   tables-commute g h both Keep d f x y = refl
   tables-commute g h both (Put i v) Keep f x y = refl

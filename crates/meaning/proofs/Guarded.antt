@@ -8,8 +8,8 @@ use Prim.Native.Nat.{ℕ}
 use lib.Dec.{eqb}
 use borrow.Author.Tests.{eqb-true, eqb-false}
 use Rattle.meaning.specs.declared.Thread.{Thread}
-use Rattle.meaning.specs.declared.Entry.{Entry as Change}
-use Rattle.meaning.specs.declared.Entry.the-variants.{Keep, Put}
+use Rattle.meaning.specs.declared.Update.{Update}
+use Rattle.meaning.specs.declared.Update.the-variants.{Keep, Put}
 use Rattle.meaning.specs.declared.Effect.{Effect}
 use Rattle.meaning.specs.Store.{Store, idle}
 use Rattle.meaning.specs.Holding.{free, naming}
@@ -70,7 +70,7 @@ module _ (s : Store) (I : Inv s) where
 -- ---- wear
 
 -- an entry that changes is guarded
-put-changed : (c : Change) (f : ℕ → ℕ) (guard : ℕ → ℕ → Type 0) → Puts c guard → (m : ℕ) → (put c f m ≡ f m → ⊥) →
+put-changed : (c : Update) (f : ℕ → ℕ) (guard : ℕ → ℕ → Type 0) → Puts c guard → (m : ℕ) → (put c f m ≡ f m → ⊥) →
     (w : ℕ) × guard m w
 put-changed Keep f guard g m x = absurd (x refl)
 put-changed (Put i w) f guard g m x =

@@ -30,8 +30,8 @@ use lib.ListN.{getD}
 use Rattle.meaning.specs.declared.Thread.{Thread}
 use Rattle.meaning.specs.declared.Word.{Word}
 use Rattle.meaning.specs.declared.Word.the-variants.{Stay, Become}
-use Rattle.meaning.specs.declared.Entry.{Entry}
-use Rattle.meaning.specs.declared.Entry.the-variants.{Keep, Put}
+use Rattle.meaning.specs.declared.Update.{Update}
+use Rattle.meaning.specs.declared.Update.the-variants.{Keep, Put}
 use Rattle.meaning.specs.declared.Effect.{Effect}
 use Rattle.meaning.specs.declared.Found.the-variants.{At}
 use Rattle.meaning.specs.Limits.{within, inLimits}
@@ -241,7 +241,7 @@ abbrev pub Changes : Word → (ℕ → Type 0) → Type 0
 Changes Stay guard = Unit {0}
 Changes (Become w) guard = guard w
 
-abbrev pub Puts : Entry → (ℕ → ℕ → Type 0) → Type 0
+abbrev pub Puts : Update → (ℕ → ℕ → Type 0) → Type 0
 Puts Keep guard = Unit {0}
 Puts (Put i w) guard = guard i w
 

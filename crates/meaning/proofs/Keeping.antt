@@ -12,8 +12,8 @@ use borrow.Author.Tests.{eqb-true, eqb-false}
 use Rattle.meaning.specs.declared.Thread.{Thread}
 use Rattle.meaning.specs.declared.Word.{Word}
 use Rattle.meaning.specs.declared.Word.the-variants.{Stay, Become}
-use Rattle.meaning.specs.declared.Entry.{Entry}
-use Rattle.meaning.specs.declared.Entry.the-variants.{Keep, Put}
+use Rattle.meaning.specs.declared.Update.{Update}
+use Rattle.meaning.specs.declared.Update.the-variants.{Keep, Put}
 use Rattle.meaning.specs.declared.Effect.{Effect}
 use Rattle.meaning.specs.Table.{every}
 use Rattle.meaning.specs.Limits.{within}
@@ -72,14 +72,14 @@ pub word-kept : (about : Type 0) (t v : ℕ) → (t ≡ v → ⊥) → (c : Word
 word-kept about t v apart Stay w x = refl
 word-kept about t v apart (Become w′) w x = passes-other t v w w′ apart x
 
-pub entry-kept : (about : ℕ → Type 0) (t v : ℕ) → (t ≡ v → ⊥) → (c : Entry) (f : ℕ → ℕ) →
+pub entry-kept : (about : ℕ → Type 0) (t v : ℕ) → (t ≡ v → ⊥) → (c : Update) (f : ℕ → ℕ) →
     Puts c (λ k. Passes (about k) t (f k)) → (k : ℕ) → heldBy v (put c f k) ≡ heldBy v (f k)
 entry-kept about t v apart Keep f x k = refl
 entry-kept about t v apart (Put i w) f x k =
     upd-each (λ k y. heldBy v y ≡ heldBy v (f k)) f i w (passes-other t v (f i) w apart x) (λ k _. refl) k
 
 -- an entry whose guard its writer can't have stays as it was
-pub put-kept : (c : Entry) (f : ℕ → ℕ) (guard : ℕ → ℕ → Type 0) → Puts c guard → (k : ℕ) →
+pub put-kept : (c : Update) (f : ℕ → ℕ) (guard : ℕ → ℕ → Type 0) → Puts c guard → (k : ℕ) →
     ((w : ℕ) → guard k w → ⊥) → put c f k ≡ f k
 put-kept Keep f guard g k lacks = refl
 put-kept (Put i w) f guard g k lacks = upd-other f i k w (λ e. lacks w (subst (λ (j : ℕ). guard j w) e g))

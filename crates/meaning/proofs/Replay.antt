@@ -13,7 +13,7 @@ use borrow.Author.Tests.{eqb-true, lt-ltb}
 use Rattle.meaning.specs.declared.Thread.{Thread}
 use Rattle.meaning.specs.declared.Word.{Word}
 use Rattle.meaning.specs.declared.Word.the-variants.{Stay, Become}
-use Rattle.meaning.specs.declared.Entry.the-variants.{Keep}
+use Rattle.meaning.specs.declared.Update.the-variants.{Keep}
 use Rattle.meaning.specs.declared.Effect.{Effect}
 use Rattle.meaning.specs.declared.Verdict.the-variants.{Go}
 use Rattle.meaning.specs.Limits.{within}

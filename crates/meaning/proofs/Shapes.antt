@@ -9,7 +9,7 @@ use lib.Dec.{ltb}
 use Rattle.meaning.specs.declared.Act.{Act}
 use Rattle.meaning.specs.declared.Act.the-variants.{Nothing, TakeH, ReleaseH, FinishH, TakeN, ReleaseN, FinishN, OwnHeaders, LetGoHeaders, Own, LetGo, GoIfMapped, GoIfUnmapped, EmptyIfUnmapped, GoIfFree, PickFree, Choose, ReadHeader, WriteHeaderN, WriteHeaderH, FreeHeader, EmptyContent, ReadContent, WriteContent, MapTo, Unmap}
 use Rattle.meaning.specs.declared.Thread.{Thread}
-use Rattle.meaning.specs.declared.Entry.the-variants.{Keep}
+use Rattle.meaning.specs.declared.Update.the-variants.{Keep}
 use Rattle.meaning.specs.declared.Effect.{Effect}
 use Rattle.meaning.specs.declared.Found.{Found}
 use Rattle.meaning.specs.declared.Found.the-variants.{Nobody, At}

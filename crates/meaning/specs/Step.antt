@@ -12,8 +12,8 @@ use Rattle.meaning.specs.declared.Act.the-variants.{Nothing, TakeH, Rele
 use Rattle.meaning.specs.declared.Thread.{Thread}
 use Rattle.meaning.specs.declared.Word.{Word}
 use Rattle.meaning.specs.declared.Word.the-variants.{Stay, Become}
-use Rattle.meaning.specs.declared.Entry.{Entry}
-use Rattle.meaning.specs.declared.Entry.the-variants.{Keep, Put}
+use Rattle.meaning.specs.declared.Update.{Update}
+use Rattle.meaning.specs.declared.Update.the-variants.{Keep, Put}
 use Rattle.meaning.specs.declared.Effect.{Effect}
 use Rattle.meaning.specs.declared.Verdict.{Verdict}
 use Rattle.meaning.specs.declared.Verdict.the-variants.{Blocked, Fault, Go, Done}
@@ -57,7 +57,7 @@ block Q r = r .q
 -- ---- the effects that there are
 
 -- what becomes of each word and table, in the area's order
-abbrev pub effect : Word → Word → Entry → Entry → Entry → Entry → Entry → Entry → Effect
+abbrev pub effect : Word → Word → Update → Update → Update → Update → Update → Update → Effect
 effect lock owner map locks header content wear own =
     record { lock = lock; owner = owner; map = map; locks = locks; header = header; content = content; wear = wear; own = own }
 
@@ -176,7 +176,7 @@ abbrev pub become : Word → ℕ → ℕ
 become Stay x = x
 become (Become w) x = w
 
-abbrev pub put : Entry → (ℕ → ℕ) → ℕ → ℕ
+abbrev pub put : Update → (ℕ → ℕ) → ℕ → ℕ
 put Keep f = f
 put (Put i w) f = upd f i w
 

@@ -61,7 +61,7 @@ pub enum Word {
 }
 
 // What becomes of a table: it is kept, or a value is put at an index.
-pub enum Entry {
+pub enum Update {
     Keep,
     Put(u32, u32),
 }
@@ -70,12 +70,12 @@ pub enum Entry {
 pub struct Effect {
     pub lock: Word,
     pub owner: Word,
-    pub map: Entry,
-    pub locks: Entry,
-    pub header: Entry,
-    pub content: Entry,
-    pub wear: Entry,
-    pub own: Entry,
+    pub map: Update,
+    pub locks: Update,
+    pub header: Update,
+    pub content: Update,
+    pub wear: Update,
+    pub own: Update,
 }
 
 // What a step would do: nothing, since a lock isn't free or a need isn't met; go on; or end its operation.

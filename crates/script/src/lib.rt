@@ -297,7 +297,7 @@ fn obey_format(area: &mut [u8], used: usize, t: u32, n: u32, p: u32, d: u32) -> 
     ensures { λ r. ⌜ Left (length (now (area .entry))) r ⌝ }
 {
     let length = wanted(t, n, p);
-    let both = door::format(&mut area[..length], t, n, p, d);
+    let both = calls::format(&mut area[..length], t, n, p, d);
     if both == 0 {
         return Turn::Reply(both, length);
     }
@@ -309,7 +309,7 @@ fn obey_begin(area: &mut [u8], used: usize, t: u32, op: u32, n: u32, c: u32) -> 
     ensures { λ r. ⌜ turned (now (area .exit)) r ≡ replied (beginArea (take used (now (area .entry))) t op n c) ⌝ }
     ensures { λ r. ⌜ Left (length (now (area .entry))) r ⌝ }
 {
-    let both = door::begin(&mut area[..used], t, op, n, c);
+    let both = calls::begin(&mut area[..used], t, op, n, c);
     Turn::Reply(both, used)
 }
 
@@ -318,7 +318,7 @@ fn obey_step(area: &mut [u8], used: usize, t: u32) -> Turn
     ensures { λ r. ⌜ turned (now (area .exit)) r ≡ replied (stepArea (take used (now (area .entry))) t) ⌝ }
     ensures { λ r. ⌜ Left (length (now (area .entry))) r ⌝ }
 {
-    let both = door::step(&mut area[..used], t);
+    let both = calls::step(&mut area[..used], t);
     Turn::Reply(both, used)
 }
 

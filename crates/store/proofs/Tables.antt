@@ -13,8 +13,8 @@ use Rattle.meaning.specs.declared.Thread.{Thread}
 use Rattle.meaning.specs.declared.Effect.{Effect}
 use Rattle.meaning.specs.declared.Word.{Word}
 use Rattle.meaning.specs.declared.Word.the-variants.{Stay, Become}
-use Rattle.meaning.specs.declared.Entry.{Entry}
-use Rattle.meaning.specs.declared.Entry.the-variants.{Keep, Put}
+use Rattle.meaning.specs.declared.Update.{Update}
+use Rattle.meaning.specs.declared.Update.the-variants.{Keep, Put}
 use Rattle.meaning.specs.Table.{upd, below}
 use Rattle.meaning.specs.Store.{Store, idle}
 use Rattle.meaning.specs.Step.{put, apply, nothing, onLock, onOwner}
@@ -22,7 +22,7 @@ use Rattle.meaning.specs.Limits.{mostWord}
 use Rattle.meaning.proofs.Words.{upd-same, upd-other, either-way}
 use Rattle.store.specs.Layout.{tAt, nAt, pAt, dAt, lockAt, ownerAt, threadsAt, threadWords, mapAt, locksAt, blocksAt, blockWords, size}
 use Rattle.store.specs.Area.{word, threadRow, threadFrom, column, storeOf, decode}
-use Rattle.store.specs.Live.{Live, Within, EntryWithin, BecomeFits, EntryFits, EntryBelow, Small, made, putWord, putThread, putBecome, putEntry}
+use Rattle.store.specs.Live.{Live, Within, EntryWithin, BecomeFits, EntryFits, EntryBelow, Small, withEffect, putWord, putThread, putBecome, putEntry}
 use Rattle.store.proofs.Words.{word-put, length-putWord, OfWords, putFrom, updFrom, word-putFrom, updFrom-other, updFrom-at}
 use Rattle.store.proofs.Decode.{decode-live, below-is}
 
@@ -219,9 +219,9 @@ module _ {a : List ℕ} {t n p : ℕ} (live : Live a t n p) (w x : ℕ) (inside 
 
   -- an effect e that putting x as word w has on any store of these sizes it has on the decoded one
   decode-put :
-      (e : Effect) → storeOf (upd (word a) w x) t n p ≡ made (storeOf (word a) t n p) e → decode (putWord a w x) ≡ made (decode a) e
+      (e : Effect) → storeOf (upd (word a) w x) t n p ≡ withEffect (storeOf (word a) t n p) e → decode (putWord a w x) ≡ withEffect (decode a) e
   decode-put e q =
-      decode-live live-put ∙ ap (λ (f : ℕ → ℕ). storeOf f t n p) word-put-at ∙ q ∙ ap (λ s. made s e) (sym (decode-live live))
+      decode-live live-put ∙ ap (λ (f : ℕ → ℕ). storeOf f t n p) word-put-at ∙ q ∙ ap (λ s. withEffect s e) (sym (decode-live live))
 
 -- the effects on one table alone
 abbrev pub lockOnly : Word → Effect
@@ -230,22 +230,22 @@ lockOnly w = record { lock = w; owner = Stay; map = Keep; locks = Keep; header =
 abbrev pub ownerOnly : Word → Effect
 ownerOnly w = record { lock = Stay; owner = w; map = Keep; locks = Keep; header = Keep; content = Keep; wear = Keep; own = Keep }
 
-abbrev pub mapOnly : Entry → Effect
+abbrev pub mapOnly : Update → Effect
 mapOnly w = record { lock = Stay; owner = Stay; map = w; locks = Keep; header = Keep; content = Keep; wear = Keep; own = Keep }
 
-abbrev pub locksOnly : Entry → Effect
+abbrev pub locksOnly : Update → Effect
 locksOnly w = record { lock = Stay; owner = Stay; map = Keep; locks = w; header = Keep; content = Keep; wear = Keep; own = Keep }
 
-abbrev pub headerOnly : Entry → Effect
+abbrev pub headerOnly : Update → Effect
 headerOnly w = record { lock = Stay; owner = Stay; map = Keep; locks = Keep; header = w; content = Keep; wear = Keep; own = Keep }
 
-abbrev pub contentOnly : Entry → Effect
+abbrev pub contentOnly : Update → Effect
 contentOnly w = record { lock = Stay; owner = Stay; map = Keep; locks = Keep; header = Keep; content = w; wear = Keep; own = Keep }
 
-abbrev pub wearOnly : Entry → Effect
+abbrev pub wearOnly : Update → Effect
 wearOnly w = record { lock = Stay; owner = Stay; map = Keep; locks = Keep; header = Keep; content = Keep; wear = w; own = Keep }
 
-abbrev pub ownOnly : Entry → Effect
+abbrev pub ownOnly : Update → Effect
 ownOnly w = record { lock = Stay; owner = Stay; map = Keep; locks = Keep; header = Keep; content = Keep; wear = Keep; own = w }
 
 module _ {a : List ℕ} {t n p : ℕ} (live : Live a t n p) where
@@ -255,14 +255,14 @@ module _ {a : List ℕ} {t n p : ℕ} (live : Live a t n p) where
   live-become k (Become x) i o f = live-put live k x i o f
 
   pub live-entry :
-      (from stride count : ℕ) (e : Entry) → EntryBelow count e →
+      (from stride count : ℕ) (e : Update) → EntryBelow count e →
       ((k : ℕ) → k < count → Within a (from + stride * k) × (pAt < from + stride * k)) → EntryFits e →
       Live (putEntry a from stride e) t n p
   live-entry from stride count Keep h i f = live
   live-entry from stride count (Put k x) h i f = live-put live (from + stride * k) x (i k h .0) (i k h .1) f
 
   pub within-entry :
-      (from stride count : ℕ) (e : Entry) → EntryBelow count e →
+      (from stride count : ℕ) (e : Update) → EntryBelow count e →
       ((k : ℕ) → k < count → Within a (from + stride * k) × (pAt < from + stride * k)) → EntryWithin a from stride e
   within-entry from stride count Keep h i = tt
   within-entry from stride count (Put k x) h i = i k h .0
@@ -283,24 +283,24 @@ module _ {a : List ℕ} {t n p : ℕ} (live : Live a t n p) where
   header-inside k h = omega (arith, live .fits)
 
   -- what becomes of each table of the decoded store
-  pub decode-lock : (w : Word) → BecomeFits w → decode (putBecome a lockAt w) ≡ made (decode a) (lockOnly w)
+  pub decode-lock : (w : Word) → BecomeFits w → decode (putBecome a lockAt w) ≡ withEffect (decode a) (lockOnly w)
   decode-lock Stay f = refl
   decode-lock (Become x) f =
       decode-put live lockAt x (omega (arith, live .fits)) (omega arith) f (onLock x) (others (word a) t n p 0 lockAt x (omega arith))
 
-  pub decode-owner : (w : Word) → BecomeFits w → decode (putBecome a ownerAt w) ≡ made (decode a) (ownerOnly w)
+  pub decode-owner : (w : Word) → BecomeFits w → decode (putBecome a ownerAt w) ≡ withEffect (decode a) (ownerOnly w)
   decode-owner Stay f = refl
   decode-owner (Become x) f =
       decode-put live ownerAt x (omega (arith, live .fits)) (omega arith) f (onOwner x) (others (word a) t n p 1 ownerAt x (omega arith))
 
   -- Table x of numbers is the column of so many words at from, from + stride, ..; `only` is the effect on it alone.
-  module _ (x from stride count : ℕ) (only : Entry → Effect) (keeps : (s : Store) → s ≡ made s (only Keep))
+  module _ (x from stride count : ℕ) (only : Update → Effect) (keeps : (s : Store) → s ≡ withEffect s (only Keep))
       (reads : (at : ℕ → ℕ) (s : Store) → mixed x (storeOf at t n p) s ≡ withTable x (column at from stride count) s)
-      (makes : (at : ℕ → ℕ) (e : Entry) → withTable x (put e (column at from stride count)) (storeOf at t n p) ≡ made (storeOf at t n p) (only e))
+      (makes : (at : ℕ → ℕ) (e : Update) → withTable x (put e (column at from stride count)) (storeOf at t n p) ≡ withEffect (storeOf at t n p) (only e))
       (apart : (k : ℕ) → k < count → Apart x t n p (from + stride * k) (from + stride * k + 1))
       (once : (k j : ℕ) → (k ≡ j → ⊥) → from + stride * k ≡ from + stride * j → ⊥)
       (inside : (k : ℕ) → k < count → Within a (from + stride * k) × (pAt < from + stride * k)) where
-    decode-entry : (e : Entry) → EntryBelow count e → EntryFits e → decode (putEntry a from stride e) ≡ made (decode a) (only e)
+    decode-entry : (e : Update) → EntryBelow count e → EntryFits e → decode (putEntry a from stride e) ≡ withEffect (decode a) (only e)
     decode-entry Keep h f = keeps (decode a)
     decode-entry (Put k v) h f =
         decode-put live (from + stride * k) v (inside k h .0) (inside k h .1) f (only (Put k v))
@@ -309,37 +309,37 @@ module _ {a : List ℕ} {t n p : ℕ} (live : Live a t n p) where
         ∙ ap (λ g. withTable x g (storeOf (word a) t n p)) (column-put (word a) from stride count k v h (once k))
         ∙ makes (word a) (Put k v))
 
-  pub decode-map : (e : Entry) → EntryBelow n e → EntryFits e → decode (putEntry a (mapAt t) 1 e) ≡ made (decode a) (mapOnly e)
+  pub decode-map : (e : Update) → EntryBelow n e → EntryFits e → decode (putEntry a (mapAt t) 1 e) ≡ withEffect (decode a) (mapOnly e)
   decode-map =
       decode-entry 3 (mapAt t) 1 n mapOnly (λ s. refl) (λ at s. refl) (λ at e. refl) (λ k h. omega arith) (λ k j o e. omega arith)
       map-inside
 
   pub decode-locks :
-      (e : Entry) → EntryBelow n e → EntryFits e → decode (putEntry a (locksAt t n) 1 e) ≡ made (decode a) (locksOnly e)
+      (e : Update) → EntryBelow n e → EntryFits e → decode (putEntry a (locksAt t n) 1 e) ≡ withEffect (decode a) (locksOnly e)
   decode-locks =
       decode-entry 4 (locksAt t n) 1 n locksOnly (λ s. refl) (λ at s. refl) (λ at e. refl) (λ k h. omega arith) (λ k j o e. omega arith)
       locks-inside
 
   pub decode-header :
-      (e : Entry) → EntryBelow p e → EntryFits e → decode (putEntry a (blocksAt t n) blockWords e) ≡ made (decode a) (headerOnly e)
+      (e : Update) → EntryBelow p e → EntryFits e → decode (putEntry a (blocksAt t n) blockWords e) ≡ withEffect (decode a) (headerOnly e)
   decode-header =
       decode-entry 5 (blocksAt t n) blockWords p headerOnly (λ s. refl) (λ at s. refl) (λ at e. refl) (λ k h. omega arith)
       (λ k j o e. omega arith) header-inside
 
   pub decode-content :
-      (e : Entry) → EntryBelow p e → EntryFits e → decode (putEntry a (blocksAt t n + 1) blockWords e) ≡ made (decode a) (contentOnly e)
+      (e : Update) → EntryBelow p e → EntryFits e → decode (putEntry a (blocksAt t n + 1) blockWords e) ≡ withEffect (decode a) (contentOnly e)
   decode-content =
       decode-entry 6 (blocksAt t n + 1) blockWords p contentOnly (λ s. refl) (λ at s. refl) (λ at e. refl) (λ k h. omega arith)
       (λ k j o e. omega arith) (blocks-inside 1 (omega arith))
 
   pub decode-wear :
-      (e : Entry) → EntryBelow p e → EntryFits e → decode (putEntry a (blocksAt t n + 2) blockWords e) ≡ made (decode a) (wearOnly e)
+      (e : Update) → EntryBelow p e → EntryFits e → decode (putEntry a (blocksAt t n + 2) blockWords e) ≡ withEffect (decode a) (wearOnly e)
   decode-wear =
       decode-entry 7 (blocksAt t n + 2) blockWords p wearOnly (λ s. refl) (λ at s. refl) (λ at e. refl) (λ k h. omega arith)
       (λ k j o e. omega arith) (blocks-inside 2 (omega arith))
 
   pub decode-own :
-      (e : Entry) → EntryBelow p e → EntryFits e → decode (putEntry a (blocksAt t n + 3) blockWords e) ≡ made (decode a) (ownOnly e)
+      (e : Update) → EntryBelow p e → EntryFits e → decode (putEntry a (blocksAt t n + 3) blockWords e) ≡ withEffect (decode a) (ownOnly e)
   decode-own =
       decode-entry 8 (blocksAt t n + 3) blockWords p ownOnly (λ s. refl) (λ at s. refl) (λ at e. refl) (λ k h. omega arith)
       (λ k j o e. omega arith) (blocks-inside 3 (omega arith))

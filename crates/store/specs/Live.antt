@@ -7,8 +7,8 @@ use lib.ListN.{length, getD, set, replicate}
 use Rattle.meaning.specs.declared.Thread.{Thread}
 use Rattle.meaning.specs.declared.Word.{Word}
 use Rattle.meaning.specs.declared.Word.the-variants.{Stay, Become}
-use Rattle.meaning.specs.declared.Entry.{Entry}
-use Rattle.meaning.specs.declared.Entry.the-variants.{Keep, Put}
+use Rattle.meaning.specs.declared.Update.{Update}
+use Rattle.meaning.specs.declared.Update.the-variants.{Keep, Put}
 use Rattle.meaning.specs.Limits.{mostThreads, mostNumbers, mostBlocks, mostWord}
 use Rattle.meaning.specs.Store.{Store}
 use Rattle.meaning.specs.declared.Effect.{Effect}
@@ -29,7 +29,7 @@ abbrev pub Within : List ℕ → ℕ → Type 0
 Within a k = 4 * k + 4 ≤ length a
 
 -- the entry of a column that is put to, if any, is within the area
-abbrev pub EntryWithin : List ℕ → ℕ → ℕ → Entry → Type 0
+abbrev pub EntryWithin : List ℕ → ℕ → ℕ → Update → Type 0
 EntryWithin a from stride Keep = Unit {0}
 EntryWithin a from stride (Put k v) = Within a (from + stride * k)
 
@@ -42,12 +42,12 @@ abbrev pub BecomeFits : Word → Type 0
 BecomeFits Stay = Unit {0}
 BecomeFits (Become v) = v ≤ mostWord
 
-abbrev pub EntryFits : Entry → Type 0
+abbrev pub EntryFits : Update → Type 0
 EntryFits Keep = Unit {0}
 EntryFits (Put k v) = v ≤ mostWord
 
 -- the entry that is put to, if any, is one of so many
-abbrev pub EntryBelow : ℕ → Entry → Type 0
+abbrev pub EntryBelow : ℕ → Update → Type 0
 EntryBelow n Keep = Unit {0}
 EntryBelow n (Put k v) = k < n
 
@@ -91,7 +91,7 @@ putBecome a k Stay = a
 putBecome a k (Become v) = putWord a k v
 
 -- the area with what becomes of the column of words at from, from + stride, ..
-abbrev pub putEntry : List ℕ → ℕ → ℕ → Entry → List ℕ
+abbrev pub putEntry : List ℕ → ℕ → ℕ → Update → List ℕ
 putEntry a from stride Keep = a
 putEntry a from stride (Put k v) = putWord a (from + stride * k) v
 
@@ -152,5 +152,5 @@ zeroFilled =
 -- ---- doing it
 
 -- the store with an effect alone; with the thread's record besides it is what a step leaves (`apply`)
-abbrev pub made : Store → Effect → Store
-made s e = changed s (s .thread) e
+abbrev pub withEffect : Store → Effect → Store
+withEffect s e = changed s (s .thread) e

@@ -9,7 +9,7 @@ ghost use Rattle.meaning.specs.Programs.{lastLine};
 ghost use Rattle.store.specs.Layout.{threadsAt, threadWords, mapAt, locksAt, blocksAt, size};
 ghost use Rattle.store.specs.Area.{word, threadFrom, column, decode, soundThread, inBounds, wellFormed};
 ghost use Rattle.store.specs.Live.{Live, Within, EntryWithin, BecomeFits, EntryFits, Small, Reaches, Fills, table, zeroFilled, putWord, putThread, putBecome, putEntry};
-use meaning::Entry;
+use meaning::Update;
 use meaning::Thread;
 use meaning::Word;
 
@@ -295,13 +295,13 @@ pub fn set_word(area: &mut [u8], k: usize, w: Word)
 }
 
 // What becomes of a table: the column of words at from, from + stride, ..
-pub fn set_entry(area: &mut [u8], from: usize, stride: usize, e: Entry)
+pub fn set_entry(area: &mut [u8], from: usize, stride: usize, e: Update)
     requires { ⌜ EntryWithin (now area) from stride e ⌝ }
     ensures { λ _. ⌜ (now (area .exit) ≡ putEntry (now (area .entry)) from stride e) × EntryFits e ⌝ }
 {
     match e {
-        Entry::Keep => {}
-        Entry::Put(k, v) => {
+        Update::Keep => {}
+        Update::Put(k, v) => {
             let cell = from + stride * (k as usize);
             put_word(area, cell, v);
         }

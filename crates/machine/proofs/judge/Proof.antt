@@ -1,4 +1,4 @@
--- `machine::judge` meets its contract: the working store, filled with zeros and then from the area, is the decoded one, and `perform`
+-- `machine::judge` meets its contract: the working store, filled with zeros and then from the area, is the decoded one, and `judge_act`
 -- looks at it. Assumes nothing.
 use mathlib.Core.Path.{_≡_, refl, ap}
 use Prim.Native.Nat.{_*_}
@@ -50,8 +50,8 @@ act-at-requires c κs = let at-line = c .before .pre .2 in (at-line .op, at-line
 words-near-requires : tie.Need-words-near-requires
 words-near-requires c κs = let steady = start (c .before .before .before .before .before .before .before .before .before .before .before .before) .pre .1 in (steady .n, steady .p, steady .q)
 
-perform-requires : tie.Need-perform-requires
-perform-requires c κs =
+judge-act-requires : tie.Need-judge-act-requires
+judge-act-requires c κs =
     let w = c .before .before .before .before .before .before .before .before .before .before .before .before .before .before .before in
     let near = c .before .before .words-near in
     let blocks : near .result .blocks ≡ w .before .before .before .word-at3 .result = λ i. near .ensures i .blocks in
@@ -93,7 +93,7 @@ returns c =
       blocks = rw (places .blocks-at .ensures) at (blocks .read-blocks .ensures);
     } in
     perform-same (a .t) (a .r)
-    (c .perform .ensures (view w) (near-sees w (a .r) (c .before .before .before .words-near .ensures)) (record { header-same = refl; wear-same = refl }))
+    (c .judge-act .ensures (view w) (near-sees w (a .r) (c .before .before .before .words-near .ensures)) (record { header-same = refl; wear-same = refl }))
     (places .before .before .before .act-at .ensures) (view-loaded (start head .pre .0) loaded)
 
 pub judge-spec : {M : Type 1} → statement M
@@ -102,4 +102,4 @@ judge-spec =
     (tie.spec act-at-requires (λ c κs. search needs) (λ c κs. search needs) (λ c κs. search needs) (λ c. search needs)
     (λ c. search needs) (λ c κs. search needs) (λ c κs. search needs) (λ c κs. search needs) (λ c κs. search needs)
     (λ c κs. search needs) (λ c κs. search needs) (λ c κs. search needs) read-threads-requires read-numbers-requires
-    read-numbers-requires-2 read-blocks-requires words-near-requires perform-requires returns)
+    read-numbers-requires-2 read-blocks-requires words-near-requires judge-act-requires returns)

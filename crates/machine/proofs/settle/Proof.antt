@@ -2,19 +2,19 @@
 use borrow.Author.Needs.{needs}
 use Rattle.meaning.specs.Step.{apply, nothing}
 use Rattle.store.specs.Area.{decode}
-use Rattle.machine.specs.Settling.{Reached, unblocked, onBlocks}
-use Rattle.machine.proofs.Reaching.{reached-start, reached-thread, reached-made}
+use Rattle.machine.specs.Settling.{Stored, unblocked, onBlocks}
+use Rattle.machine.proofs.Storing.{stored-start, stored-thread, stored-withEffect}
 use Rattle.machine.proofs.settle.Statement.{statement}
 use Rattle.machine.proofs.settle.Tie as tie
 
 -- with the thread's record
 seated :
     (c : tie.After-set-thread) →
-    Reached (c .before .before .before .args .area .now) (c .set-thread .last .0) (c .before .before .before .args .z .t) (c .before .before .before .args .z .n) (c .before .before .before .args .z .p)
+    Stored (c .before .before .before .args .area .now) (c .set-thread .last .0) (c .before .before .before .args .z .t) (c .before .before .before .args .z .n) (c .before .before .before .args .z .p)
     (apply (decode (c .before .before .before .args .area .now)) (c .before .before .before .args .k) (c .before .before .before .args .r) nothing)
 seated c =
     let w = c .before .before .before in
-    reached-thread (reached-start (w .pre .0)) (w .args .k) (w .args .r) (c .set-thread .ensures .0) (c .set-thread .ensures .1)
+    stored-thread (stored-start (w .pre .0)) (w .args .k) (w .args .r) (c .set-thread .ensures .0) (c .set-thread .ensures .1)
     (w .pre .1)
 
 settle-numbers-requires : tie.Need-settle-numbers-requires
@@ -34,8 +34,8 @@ returns c =
     let r₁ = seated (c .before .before .before .before .before .before .before .before .before .before) in
     let r₂ = c .before .before .before .before .before .before .settle-numbers .ensures in
     let r₃ = c .before .before .settle-blocks .ensures in
-    reached-made (onBlocks (e .header) (e .content) (e .wear) (e .own))
-    (reached-made (unblocked (e .lock) (e .owner) (e .map) (e .locks)) r₁ r₂) r₃
+    stored-withEffect (onBlocks (e .header) (e .content) (e .wear) (e .own))
+    (stored-withEffect (unblocked (e .lock) (e .owner) (e .map) (e .locks)) r₁ r₂) r₃
 
 pub settle-spec : {M : Type 1} → statement M
 settle-spec =

@@ -2,35 +2,35 @@
 use borrow.Author.Needs.{needs}
 use Rattle.store.specs.Layout.{mapAt, locksAt}
 use Rattle.store.specs.Area.{decode}
-use Rattle.store.specs.Live.{made}
+use Rattle.store.specs.Live.{withEffect}
 use Rattle.store.proofs.Tables.{lockOnly, ownerOnly, mapOnly, locksOnly, map-inside, locks-inside, decode-map, decode-locks}
-use Rattle.machine.specs.Settling.{Reached}
-use Rattle.machine.proofs.Reaching.{reached-start, reached-lock, reached-owner, reached-entry, entry-within}
+use Rattle.machine.specs.Settling.{Stored}
+use Rattle.machine.proofs.Storing.{stored-start, stored-lock, stored-owner, stored-entry, entry-within}
 use Rattle.machine.proofs.settle_numbers.Statement.{statement}
 use Rattle.machine.proofs.settle_numbers.Tie as tie
 
 -- H and the headers' owner
 owned :
     (c : tie.After-set-word2) →
-    Reached (c .before .before .before .before .before .before .before .before .before .args .area .now) (c .set-word2 .last .0) (c .before .before .before .before .before .before .before .before .before .args .z .t) (c .before .before .before .before .before .before .before .before .before .args .z .n) (c .before .before .before .before .before .before .before .before .before .args .z .p)
-    (made (made (decode (c .before .before .before .before .before .before .before .before .before .args .area .now)) (lockOnly (c .before .before .before .before .before .before .before .before .before .args .lock))) (ownerOnly (c .before .before .before .before .before .before .before .before .before .args .owner)))
+    Stored (c .before .before .before .before .before .before .before .before .before .args .area .now) (c .set-word2 .last .0) (c .before .before .before .before .before .before .before .before .before .args .z .t) (c .before .before .before .before .before .before .before .before .before .args .z .n) (c .before .before .before .before .before .before .before .before .before .args .z .p)
+    (withEffect (withEffect (decode (c .before .before .before .before .before .before .before .before .before .args .area .now)) (lockOnly (c .before .before .before .before .before .before .before .before .before .args .lock))) (ownerOnly (c .before .before .before .before .before .before .before .before .before .args .owner)))
 owned c =
     let w = c .before .before .before .before .before .before .before .before .before in
-    reached-owner
-    (reached-lock (reached-start (w .pre .0)) (w .args .lock) (c .before .before .before .before .set-word .ensures .0) (c .before .before .before .before .set-word .ensures .1))
+    stored-owner
+    (stored-lock (stored-start (w .pre .0)) (w .args .lock) (c .before .before .before .before .set-word .ensures .0) (c .before .before .before .before .set-word .ensures .1))
     (w .args .owner) (c .set-word2 .ensures .0) (c .set-word2 .ensures .1)
 
 -- and the map
 mapped :
     (c : tie.After-set-entry) →
-    Reached (c .before .before .before .before .before .before .before .before .before .before .before .before .before .args .area .now) (c .set-entry .last .0) (c .before .before .before .before .before .before .before .before .before .before .before .before .before .args .z .t) (c .before .before .before .before .before .before .before .before .before .before .before .before .before .args .z .n) (c .before .before .before .before .before .before .before .before .before .before .before .before .before .args .z .p)
-    (made
-    (made (made (decode (c .before .before .before .before .before .before .before .before .before .before .before .before .before .args .area .now)) (lockOnly (c .before .before .before .before .before .before .before .before .before .before .before .before .before .args .lock))) (ownerOnly (c .before .before .before .before .before .before .before .before .before .before .before .before .before .args .owner)))
+    Stored (c .before .before .before .before .before .before .before .before .before .before .before .before .before .args .area .now) (c .set-entry .last .0) (c .before .before .before .before .before .before .before .before .before .before .before .before .before .args .z .t) (c .before .before .before .before .before .before .before .before .before .before .before .before .before .args .z .n) (c .before .before .before .before .before .before .before .before .before .before .before .before .before .args .z .p)
+    (withEffect
+    (withEffect (withEffect (decode (c .before .before .before .before .before .before .before .before .before .before .before .before .before .args .area .now)) (lockOnly (c .before .before .before .before .before .before .before .before .before .before .before .before .before .args .lock))) (ownerOnly (c .before .before .before .before .before .before .before .before .before .before .before .before .before .args .owner)))
     (mapOnly (c .before .before .before .before .before .before .before .before .before .before .before .before .before .args .map)))
 mapped c =
     let w = c .before .before .before .before .before .before .before .before .before .before .before .before .before in
     let r = owned (c .before .before .before .before) in
-    reached-entry r (mapAt (w .args .z .t)) 1 (w .args .z .n) _ (w .args .map) (mapOnly (w .args .map)) (c .before .before .before .before .before .before .before .before .before .before .before .map-at .ensures)
+    stored-entry r (mapAt (w .args .z .t)) 1 (w .args .z .n) _ (w .args .map) (mapOnly (w .args .map)) (c .before .before .before .before .before .before .before .before .before .before .before .map-at .ensures)
     (c .set-entry .ensures .0) (c .set-entry .ensures .1) (w .pre .1) (map-inside (r .live))
     (decode-map (r .live) (w .args .map) (w .pre .1) (c .set-entry .ensures .1))
 
@@ -52,7 +52,7 @@ returns : tie.Need-returns
 returns c =
     let w = c .before .before .before .before .before .before .before .before .before .before .before .before .before .before .before .before .before .before .before in
     let r = mapped (c .before .before .before .before .before .before) in
-    reached-entry r (locksAt (w .args .z .t) (w .args .z .n)) 1 (w .args .z .n) _ (w .args .locks) (locksOnly (w .args .locks))
+    stored-entry r (locksAt (w .args .z .t) (w .args .z .n)) 1 (w .args .z .n) _ (w .args .locks) (locksOnly (w .args .locks))
     (c .before .before .before .before .before .before .before .before .before .before .before .before .before .before .before .before .locks-at .ensures) (c .before .before .set-entry2 .ensures .0) (c .before .before .set-entry2 .ensures .1) (w .pre .2) (locks-inside (r .live))
     (decode-locks (r .live) (w .args .locks) (w .pre .2) (c .before .before .set-entry2 .ensures .1))
 

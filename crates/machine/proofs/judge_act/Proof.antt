@@ -1,4 +1,4 @@
--- `machine::perform` meets its contract: an answer an act, in the order of the arms, from what its parts ensure and what `Sees` says of
+-- `machine::judge_act` meets its contract: an answer an act, in the order of the arms, from what its parts ensure and what `Sees` says of
 -- the words. Assumes nothing.
 use mathlib.Core.Path.{_∙_, ap₂}
 use native.Mathlib.Omega.{arith}
@@ -9,8 +9,8 @@ use Rattle.meaning.specs.Step.{need}
 use Rattle.machine.specs.Judging.{pickedOf}
 use Rattle.machine.proofs.Search.{chosen-seen}
 use Rattle.machine.proofs.Registers.{ownOf-at, headerOf-at, block-below}
-use Rattle.machine.proofs.perform.Statement.{statement}
-use Rattle.machine.proofs.perform.Tie as tie
+use Rattle.machine.proofs.judge_act.Statement.{statement}
+use Rattle.machine.proofs.judge_act.Tie as tie
 
 next-requires-9 : tie.Need-next-requires-9
 next-requires-9 c κs = rw (c .before .set-h .ensures) (search needs)
@@ -111,8 +111,8 @@ returns-26 c s e g = rw (c .before .before .enum-told16 .given .1) (simp (c .nex
 easy : {A B : Type 0} → A → B → Unit {0}
 easy c κs = tt
 
-pub perform-spec : {M : Type 1} → statement M
-perform-spec =
+pub judge-act-spec : {M : Type 1} → statement M
+judge-act-spec =
     tie.close
     (tie.spec (λ c. search needs) (λ c. search needs) (λ c. search needs) easy (λ c κs. search needs) easy
     (λ c. search needs) easy (λ c κs. search needs) easy (λ c. search needs) easy easy easy (λ c. search needs) easy

@@ -28,9 +28,9 @@ use Rattle.store.proofs.Sound.{Sound, Working, SoundThread, wellFormed-sound}
 use Rattle.store.proofs.Codec.{encode-decode}
 use Rattle.machine.specs.declared.Sizes.{Sizes}
 use Rattle.machine.specs.Judging.{Steady, AtLine}
-use Rattle.machine.specs.Settling.{Places, Reached}
-use Rattle.machine.proofs.Placing.{Placed, perform-placed}
-use Rattle.door.specs.Means.{Gives}
+use Rattle.machine.specs.Settling.{EffectInside, Stored}
+use Rattle.machine.proofs.Inside.{VerdictInside, perform-inside}
+use Rattle.calls.specs.Means.{Replied}
 
 -- ---- from a reply to a contract
 
@@ -40,8 +40,8 @@ refusal number a = record { number = number; value = 0; after = a }
 abbrev pub answer : ℕ → ℕ → List ℕ → Reply (List ℕ)
 answer number value b = record { number = number; value = value; after = b }
 
-pub gives : {y : Reply (List ℕ)} (number value : ℕ) {b : List ℕ} {r : ℕ} {x : List ℕ} → y ≡ answer number value b → r ≡ packed number value → x ≡ b → Gives y r x
-gives number value e q i = rw e (q, i)
+pub replied : {y : Reply (List ℕ)} (number value : ℕ) {b : List ℕ} {r : ℕ} {x : List ℕ} → y ≡ answer number value b → r ≡ packed number value → x ≡ b → Replied y r x
+replied number value e q i = rw e (q, i)
 
 -- ---- a well-formed area
 
@@ -82,7 +82,7 @@ opens {a} e n is low =
 pub record Judged (a : List ℕ) (k : ℕ) (z : Sizes) (v : Verdict) : Type 0 where
   pub opened : Opened a k z
   pub telling : callArea a (step k) ≡ reply encode a (told (decode a) k v)
-  pub places : Placed (z .n) (z .p) v
+  pub inside : VerdictInside (z .n) (z .p) v
 
 -- ---- the tests as the code has them
 
@@ -202,9 +202,9 @@ module _ {a : List ℕ} {k : ℕ} {z : Sizes} (o : Opened a k z) {r : Thread} (i
               rw (o .well, below, rests (ne-eqb _ _ busy))
               (ap (λ x. reply encode a (told (decode a) k x))
               (sym (e ∙ ap (λ x. perform (actAt (x .op) (x .line)) (decode a) k x) is)));
-          places =
-              subst (Placed (z .n) (z .p)) (sym e)
-              (perform-placed (z .n) (z .p) (decode a) k r (omega (arith, w .n-low, o .live .numbers))
+          inside =
+              subst (VerdictInside (z .n) (z .p)) (sym e)
+              (perform-inside (z .n) (z .p) (decode a) k r (omega (arith, w .n-low, o .live .numbers))
               (omega (arith, w .p-low, o .live .blocks)) (omega (arith, w .q-low, o .live .blocks)) (actAt (r .op) (r .line)));
         }
 
@@ -213,16 +213,16 @@ module _ {a : List ℕ} {k : ℕ} {z : Sizes} {v : Verdict} (j : Judged a k z v)
   pub step-told : {x : Verdict} → v ≡ x → callArea a (step k) ≡ reply encode a (told (decode a) k x)
   step-told q = j .telling ∙ ap (λ x. reply encode a (told (decode a) k x)) q
 
-  pub settle-go : {x : Thread} {e : Effect} → v ≡ Go x e → Live a (z .t) (z .n) (z .p) × (k < z .t) × Places (z .n) (z .p) e
-  settle-go q = (j .opened .live, j .opened .below, subst (Placed (z .n) (z .p)) q (j .places))
+  pub settle-go : {x : Thread} {e : Effect} → v ≡ Go x e → Live a (z .t) (z .n) (z .p) × (k < z .t) × EffectInside (z .n) (z .p) e
+  settle-go q = (j .opened .live, j .opened .below, subst (VerdictInside (z .n) (z .p)) q (j .inside))
 
-  pub settle-done : {x : ℕ} {e : Effect} → v ≡ Done x e → Live a (z .t) (z .n) (z .p) × (k < z .t) × Places (z .n) (z .p) e
-  settle-done q = (j .opened .live, j .opened .below, subst (Placed (z .n) (z .p)) q (j .places))
+  pub settle-done : {x : ℕ} {e : Effect} → v ≡ Done x e → Live a (z .t) (z .n) (z .p) × (k < z .t) × EffectInside (z .n) (z .p) e
+  settle-done q = (j .opened .live, j .opened .below, subst (VerdictInside (z .n) (z .p)) q (j .inside))
 
 -- ---- what the machine leaves is what its store encodes to
 
-pub reached-encoded : {a b : List ℕ} {t n p : ℕ} {s : Store} → Reached a b t n p s → Bytes a → b ≡ encode s
-reached-encoded {b = b} r h =
+pub stored-encoded : {a b : List ℕ} {t n p : ℕ} {s : Store} → Stored a b t n p s → Bytes a → b ≡ encode s
+stored-encoded {b = b} r h =
     sym (encode-decode b (r .bytes h) (r .live .fits ∙ (λ i. size (sym (r .live .threads) i) (sym (r .live .numbers) i) (sym (r .live .blocks) i))))
     ∙ ap encode (r .decoded)
 

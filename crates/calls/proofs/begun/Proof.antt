@@ -1,7 +1,7 @@
--- `door::begun` meets its contract. Assumes nothing.
+-- `calls::begun` meets its contract. Assumes nothing.
 use borrow.Author.Needs.{needs}
-use Rattle.door.proofs.begun.Statement.{statement}
-use Rattle.door.proofs.begun.Tie as tie
+use Rattle.calls.proofs.begun.Statement.{statement}
+use Rattle.calls.proofs.begun.Tie as tie
 
 pub begun-spec : {M : Type 1} → statement M
 begun-spec =

@@ -8,14 +8,14 @@ use Rattle.meaning.specs.Call.{Reply}
 use Rattle.store.specs.Calls.{formatArea, beginArea, stepArea}
 
 -- result and area after a call, as the reply has them
-abbrev pub Gives : Reply (List ℕ) → ℕ → List ℕ → Type 0
-Gives reply result exit = (result ≡ packed (reply .number) (reply .value)) × (exit ≡ reply .after)
+abbrev pub Replied : Reply (List ℕ) → ℕ → List ℕ → Type 0
+Replied reply result exit = (result ≡ packed (reply .number) (reply .value)) × (exit ≡ reply .after)
 
 abbrev pub FormatMeans : List ℕ → ℕ → ℕ → ℕ → ℕ → ℕ → List ℕ → Type 0
-FormatMeans entry t n p d result exit = Gives (formatArea entry t n p d) result exit
+FormatMeans entry t n p d result exit = Replied (formatArea entry t n p d) result exit
 
 abbrev pub BeginMeans : List ℕ → ℕ → ℕ → ℕ → ℕ → ℕ → List ℕ → Type 0
-BeginMeans entry thread op n c result exit = Gives (beginArea entry thread op n c) result exit
+BeginMeans entry thread op n c result exit = Replied (beginArea entry thread op n c) result exit
 
 abbrev pub StepMeans : List ℕ → ℕ → ℕ → List ℕ → Type 0
-StepMeans entry thread result exit = Gives (stepArea entry thread) result exit
+StepMeans entry thread result exit = Replied (stepArea entry thread) result exit

@@ -1,4 +1,4 @@
-// The C door: format, begin and step on numbers and an area of bytes. Each refuses in the order of document 01's table and otherwise
+// The calls: format, begin and step on numbers and an area of bytes. Each refuses in the order of document 01's table and otherwise
 // does what its definition says (specs/Means.antt); the result is number times 4,294,967,296 plus value. No function has a `requires`.
 ghost use mathlib.Core.Path.{_≡_};
 ghost use Prim.Native.Nat.{_+_, _*_, _<_, _≤_};
@@ -8,7 +8,7 @@ ghost use Rattle.meaning.specs.Store.{idle as idleOf};
 ghost use Rattle.meaning.specs.Call.{begun as begunOf, storedN, storedC};
 ghost use Rattle.store.specs.Layout.{tAt, nAt, pAt};
 ghost use Rattle.store.specs.Area.{word};
-ghost use Rattle.door.specs.Means.{FormatMeans, BeginMeans, StepMeans};
+ghost use Rattle.calls.specs.Means.{FormatMeans, BeginMeans, StepMeans};
 use machine::Sizes;
 use meaning::Thread;
 use meaning::Verdict;
@@ -119,8 +119,7 @@ fn idle() -> Thread
 
 // ---- the three calls
 
-#[no_mangle]
-pub extern "C" fn format(area: &mut [u8], t: u32, n: u32, p: u32, d: u32) -> u64
+pub fn format(area: &mut [u8], t: u32, n: u32, p: u32, d: u32) -> u64
     ensures { λ r. ⌜ FormatMeans (now (area .entry)) t n p d r (now (area .exit)) ⌝ }
 {
     if !Store::in_limits(t, n, p, d) {
@@ -137,8 +136,7 @@ pub extern "C" fn format(area: &mut [u8], t: u32, n: u32, p: u32, d: u32) -> u64
     pack(WENT, 0)
 }
 
-#[no_mangle]
-pub extern "C" fn begin(area: &mut [u8], thread: u32, op: u32, n: u32, c: u32) -> u64
+pub fn begin(area: &mut [u8], thread: u32, op: u32, n: u32, c: u32) -> u64
     ensures { λ r. ⌜ BeginMeans (now (area .entry)) thread op n c r (now (area .exit)) ⌝ }
 {
     if !store::well_formed(area) {
@@ -163,8 +161,7 @@ pub extern "C" fn begin(area: &mut [u8], thread: u32, op: u32, n: u32, c: u32) -
     pack(WENT, 0)
 }
 
-#[no_mangle]
-pub extern "C" fn step(area: &mut [u8], thread: u32) -> u64
+pub fn step(area: &mut [u8], thread: u32) -> u64
     ensures { λ r. ⌜ StepMeans (now (area .entry)) thread r (now (area .exit)) ⌝ }
 {
     if !store::well_formed(area) {

@@ -1,12 +1,12 @@
--- `door::clear` meets its contract. The loop's invariant: the bytes passed are 0. Assumes nothing.
+-- `calls::clear` meets its contract. The loop's invariant: the bytes passed are 0. Assumes nothing.
 use Prim.Native.Nat.{ℕ, _-_, _≤_, _<_}
 use mathlib.Core.Path.{_≡_, refl, _∙_, sym}
 use native.Mathlib.Omega.{arith}
 use lib.ListN.{length, getD, set, length-set, length-replicate, getD-replicate}
 use lib.Seq.{getD-set-same, getD-set-other, ext-getD}
 use borrow.Author.Count.{below-more}
-use Rattle.door.proofs.clear.Statement.{statement}
-use Rattle.door.proofs.clear.Tie as tie
+use Rattle.calls.proofs.clear.Statement.{statement}
+use Rattle.calls.proofs.clear.Tie as tie
 
 abbrev Inv-loop : tie.InvT-loop
 Inv-loop area₀ i₀ area i = (length area ≡ length area₀) × (i ≤ length area₀) × ((k : ℕ) → k < i → getD area k 0 ≡ 0)

@@ -6,27 +6,27 @@ use native.Mathlib.Omega.{arith}
 use Rattle.meaning.specs.declared.Thread.{Thread}
 use Rattle.meaning.specs.declared.Word.{Word}
 use Rattle.meaning.specs.declared.Word.the-variants.{Stay, Become}
-use Rattle.meaning.specs.declared.Entry.{Entry}
-use Rattle.meaning.specs.declared.Entry.the-variants.{Keep, Put}
+use Rattle.meaning.specs.declared.Update.{Update}
+use Rattle.meaning.specs.declared.Update.the-variants.{Keep, Put}
 use Rattle.meaning.specs.declared.Effect.{Effect}
 use Rattle.meaning.specs.Store.{Store}
 use Rattle.meaning.specs.Step.{apply, nothing}
 use Rattle.store.specs.Layout.{pAt, lockAt, ownerAt, threadsAt, threadWords}
 use Rattle.store.specs.Area.{Bytes, decode}
-use Rattle.store.specs.Live.{Live, Within, BecomeFits, EntryFits, EntryBelow, EntryWithin, Small, made, putWord, putBecome, putEntry, putThread}
+use Rattle.store.specs.Live.{Live, Within, BecomeFits, EntryFits, EntryBelow, EntryWithin, Small, withEffect, putWord, putBecome, putEntry, putThread}
 use Rattle.store.proofs.Words.{bytes-put}
 use Rattle.store.proofs.Tables.{lockOnly, ownerOnly, live-become, live-entry, within-entry, decode-lock, decode-owner, live-thread, decode-thread}
-use Rattle.machine.specs.Settling.{Reached}
+use Rattle.machine.specs.Settling.{Stored}
 
 -- at the start
-pub reached-start : {a : List ℕ} {t n p : ℕ} → Live a t n p → Reached a a t n p (decode a)
-reached-start live = record { decoded = refl; live = live; bytes = λ h. h }
+pub stored-start : {a : List ℕ} {t n p : ℕ} → Live a t n p → Stored a a t n p (decode a)
+stored-start live = record { decoded = refl; live = live; bytes = λ h. h }
 
 bytes-become : (a : List ℕ) (k : ℕ) (w : Word) → Bytes a → Bytes (putBecome a k w)
 bytes-become a k Stay h = h
 bytes-become a k (Become v) h = bytes-put a k v h
 
-bytes-entry : (a : List ℕ) (from stride : ℕ) (e : Entry) → Bytes a → Bytes (putEntry a from stride e)
+bytes-entry : (a : List ℕ) (from stride : ℕ) (e : Update) → Bytes a → Bytes (putEntry a from stride e)
 bytes-entry a from stride Keep h = h
 bytes-entry a from stride (Put k v) h = bytes-put a (from + stride * k) v h
 
@@ -55,42 +55,42 @@ bytes-thread a k r h =
     a₆ : List ℕ
     a₆ = putWord a₅ (k + 5) (r .q)
 
-module _ {a b : List ℕ} {t n p : ℕ} {s : Store} (r : Reached a b t n p s) where
-  pub reached-lock : {c : List ℕ} (w : Word) → c ≡ putBecome b lockAt w → BecomeFits w → Reached a c t n p (made s (lockOnly w))
-  reached-lock w e f =
+module _ {a b : List ℕ} {t n p : ℕ} {s : Store} (r : Stored a b t n p s) where
+  pub stored-lock : {c : List ℕ} (w : Word) → c ≡ putBecome b lockAt w → BecomeFits w → Stored a c t n p (withEffect s (lockOnly w))
+  stored-lock w e f =
       rw e
       (record {
-        decoded = decode-lock (r .live) w f ∙ ap (λ x. made x (lockOnly w)) (r .decoded);
+        decoded = decode-lock (r .live) w f ∙ ap (λ x. withEffect x (lockOnly w)) (r .decoded);
         live = live-become (r .live) lockAt w (omega (arith, r .live .fits)) (omega arith) f;
         bytes = λ h. bytes-become b lockAt w (r .bytes h);
       })
 
-  pub reached-owner : {c : List ℕ} (w : Word) → c ≡ putBecome b ownerAt w → BecomeFits w → Reached a c t n p (made s (ownerOnly w))
-  reached-owner w e f =
+  pub stored-owner : {c : List ℕ} (w : Word) → c ≡ putBecome b ownerAt w → BecomeFits w → Stored a c t n p (withEffect s (ownerOnly w))
+  stored-owner w e f =
       rw e
       (record {
-        decoded = decode-owner (r .live) w f ∙ ap (λ x. made x (ownerOnly w)) (r .decoded);
+        decoded = decode-owner (r .live) w f ∙ ap (λ x. withEffect x (ownerOnly w)) (r .decoded);
         live = live-become (r .live) ownerAt w (omega (arith, r .live .fits)) (omega arith) f;
         bytes = λ h. bytes-become b ownerAt w (r .bytes h);
       })
 
   -- a table at `from`, with what the law of that table says
-  pub reached-entry :
-      {c : List ℕ} (from stride count place : ℕ) (e : Entry) (x : Effect) → place ≡ from → c ≡ putEntry b place stride e → EntryFits e →
+  pub stored-entry :
+      {c : List ℕ} (from stride count place : ℕ) (e : Update) (x : Effect) → place ≡ from → c ≡ putEntry b place stride e → EntryFits e →
       EntryBelow count e → ((k : ℕ) → k < count → Within b (from + stride * k) × (pAt < from + stride * k)) →
-      decode (putEntry b from stride e) ≡ made (decode b) x → Reached a c t n p (made s x)
-  reached-entry from stride count place e x q i f h inside law =
+      decode (putEntry b from stride e) ≡ withEffect (decode b) x → Stored a c t n p (withEffect s x)
+  stored-entry from stride count place e x q i f h inside law =
       rw (i, q)
       (record {
-        decoded = law ∙ ap (λ y. made y x) (r .decoded);
+        decoded = law ∙ ap (λ y. withEffect y x) (r .decoded);
         live = live-entry (r .live) from stride count e h inside f;
         bytes = λ y. bytes-entry b from stride e (r .bytes y);
       })
 
-  pub reached-thread :
+  pub stored-thread :
       {c : List ℕ} (k : ℕ) (x : Thread) → c ≡ putThread b (threadsAt + threadWords * k) x → Small x → k < t →
-      Reached a c t n p (apply s k x nothing)
-  reached-thread k x e f h =
+      Stored a c t n p (apply s k x nothing)
+  stored-thread k x e f h =
       rw e
       (record {
         decoded = decode-thread (r .live) k x f h ∙ ap (λ y. apply y k x nothing) (r .decoded);
@@ -100,17 +100,17 @@ module _ {a b : List ℕ} {t n p : ℕ} {s : Store} (r : Reached a b t n p s) wh
 
 -- what a setter of a table asks
 pub entry-within :
-    {b : List ℕ} {t n p : ℕ} (live : Live b t n p) (from stride count place : ℕ) (e : Entry) → place ≡ from → EntryBelow count e →
+    {b : List ℕ} {t n p : ℕ} (live : Live b t n p) (from stride count place : ℕ) (e : Update) → place ≡ from → EntryBelow count e →
     ((k : ℕ) → k < count → Within b (from + stride * k) × (pAt < from + stride * k)) → EntryWithin b place stride e
 entry-within live from stride count place e q h inside = rw q (within-entry live from stride count e h inside)
 
 -- an effect after what came before
-pub reached-made :
-    {a b c : List ℕ} {t n p : ℕ} {s : Store} (e : Effect) → Reached a b t n p s → Reached b c t n p (made (decode b) e) →
-    Reached a c t n p (made s e)
-reached-made e r q =
+pub stored-withEffect :
+    {a b c : List ℕ} {t n p : ℕ} {s : Store} (e : Effect) → Stored a b t n p s → Stored b c t n p (withEffect (decode b) e) →
+    Stored a c t n p (withEffect s e)
+stored-withEffect e r q =
     record {
-      decoded = q .decoded ∙ ap (λ s. made s e) (r .decoded);
+      decoded = q .decoded ∙ ap (λ s. withEffect s e) (r .decoded);
       live = q .live;
       bytes = λ h. q .bytes (r .bytes h);
     }

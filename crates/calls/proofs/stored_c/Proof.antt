@@ -1,7 +1,7 @@
--- `door::stored_c` meets its contract. Assumes nothing.
+-- `calls::stored_c` meets its contract. Assumes nothing.
 use borrow.Author.Tests.{eq-eqb, ne-eqb}
-use Rattle.door.proofs.stored_c.Statement.{statement}
-use Rattle.door.proofs.stored_c.Tie as tie
+use Rattle.calls.proofs.stored_c.Statement.{statement}
+use Rattle.calls.proofs.stored_c.Tie as tie
 
 pub stored-c-spec : {M : Type 1} → statement M
 stored-c-spec =

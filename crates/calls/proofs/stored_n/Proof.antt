@@ -1,7 +1,7 @@
--- `door::stored_n` meets its contract. Assumes nothing.
+-- `calls::stored_n` meets its contract. Assumes nothing.
 use borrow.Author.Tests.{eq-eqb, ne-eqb}
-use Rattle.door.proofs.stored_n.Statement.{statement}
-use Rattle.door.proofs.stored_n.Tie as tie
+use Rattle.calls.proofs.stored_n.Statement.{statement}
+use Rattle.calls.proofs.stored_n.Tie as tie
 
 pub stored-n-spec : {M : Type 1} → statement M
 stored-n-spec =

@@ -1,0 +1,24 @@
+// What C links: each exported function is a thin one over a function of a crate below, and has that function's contract. A static library
+// has only the functions that its own crate marks, so all that C can call stands here. The C header is include/kernelsun.h.
+ghost use Rattle.calls.specs.Means.{FormatMeans, BeginMeans, StepMeans};
+
+#[no_mangle]
+pub extern "C" fn format(area: &mut [u8], t: u32, n: u32, p: u32, d: u32) -> u64
+    ensures { λ r. ⌜ FormatMeans (now (area .entry)) t n p d r (now (area .exit)) ⌝ }
+{
+    calls::format(area, t, n, p, d)
+}
+
+#[no_mangle]
+pub extern "C" fn begin(area: &mut [u8], thread: u32, op: u32, n: u32, c: u32) -> u64
+    ensures { λ r. ⌜ BeginMeans (now (area .entry)) thread op n c r (now (area .exit)) ⌝ }
+{
+    calls::begin(area, thread, op, n, c)
+}
+
+#[no_mangle]
+pub extern "C" fn step(area: &mut [u8], thread: u32) -> u64
+    ensures { λ r. ⌜ StepMeans (now (area .entry)) thread r (now (area .exit)) ⌝ }
+{
+    calls::step(area, thread)
+}

@@ -10,11 +10,11 @@ ghost use Rattle.meaning.specs.Step.{goto as gotoOf, onward as onwardOf, setN, 
 use meaning::Act;
 use meaning::Answer;
 use meaning::Effect;
+use meaning::Reg;
+use meaning::Thread;
 use meaning::Update;
 use meaning::Update::Keep;
 use meaning::Update::Put;
-use meaning::Reg;
-use meaning::Thread;
 use meaning::Verdict;
 use meaning::Word;
 use meaning::Word::Become;

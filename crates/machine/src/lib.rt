@@ -38,12 +38,12 @@ use acts::worn;
 use meaning::Act;
 use meaning::Act::*;
 use meaning::Effect;
-use meaning::Update;
 use meaning::Found;
 use meaning::Reg;
 use meaning::Reg::P;
 use meaning::Reg::Q;
 use meaning::Thread;
+use meaning::Update;
 use meaning::Verdict;
 use meaning::Verdict::Done;
 use meaning::Verdict::Fault;
@@ -333,7 +333,14 @@ fn settle_numbers(area: &mut [u8], z: Sizes, lock: Word, owner: Word, map: Updat
 }
 
 // What becomes of the blocks.
-fn settle_blocks(area: &mut [u8], z: Sizes, header: Update, content: Update, wear: Update, own: Update)
+fn settle_blocks(
+    area: &mut [u8],
+    z: Sizes,
+    header: Update,
+    content: Update,
+    wear: Update,
+    own: Update,
+)
     requires { ⌜ Live (now area) (z .t) (z .n) (z .p) × EntryBelow (z .p) header × EntryBelow (z .p) content × EntryBelow (z .p) wear × EntryBelow (z .p) own ⌝ }
     ensures { λ _. ⌜ Stored (now (area .entry)) (now (area .exit)) (z .t) (z .n) (z .p) (withEffect (decode (now (area .entry))) (onBlocks header content wear own)) ⌝ }
 {

@@ -9,8 +9,8 @@ ghost use Rattle.meaning.specs.Programs.{lastLine};
 ghost use Rattle.store.specs.Layout.{threadsAt, threadWords, mapAt, locksAt, blocksAt, size};
 ghost use Rattle.store.specs.Area.{word, threadFrom, column, decode, soundThread, inBounds, wellFormed};
 ghost use Rattle.store.specs.Live.{Live, Within, EntryWithin, BecomeFits, EntryFits, Small, Reaches, Fills, table, zeroFilled, putWord, putThread, putBecome, putEntry};
-use meaning::Update;
 use meaning::Thread;
+use meaning::Update;
 use meaning::Word;
 
 // ---- the working store and the limits

@@ -25,7 +25,7 @@ typedef struct {
     uint32_t records[THREAD_WORDS * KERNELSUN_THREADS_MOST];
     uint32_t map[KERNELSUN_LOGICAL_MOST];
     uint32_t locks[KERNELSUN_LOGICAL_MOST];
-    uint32_t blocks[BLOCK_WORDS * KERNELSUN_PHYSICAL_MOST];
+    uint32_t blocks[BLOCK_WORDS][KERNELSUN_PHYSICAL_MOST]; /* headers, contents, wear, owners */
 } store;
 
 /* ---- Where words stand: in the store, and at the same time in the area ---- */
@@ -86,7 +86,7 @@ static inline place lock_place(const machine *m, uint32_t n)
 
 static inline place block_place(const machine *m, uint32_t p, size_t field)
 {
-    return both(m, &m->held->blocks[(size_t)BLOCK_WORDS * p + field], block_word(&m->s, p, field));
+    return both(m, &m->held->blocks[field][p], block_word(&m->s, p, field));
 }
 
 #include "lines.h"
@@ -98,6 +98,17 @@ static inline void load_words(uint32_t *to, const uint8_t *area, size_t from, si
     memcpy(to, area + BYTES_IN_WORD * from, BYTES_IN_WORD * count);
 }
 
+/* An array after the other; a loop over the records was slower on the largest area. */
+static inline void load_blocks(store *to, const uint8_t *area, const sizes *s)
+{
+    const uint8_t *records = area + BYTES_IN_WORD * block_word(s, 0, 0);
+    for (size_t field = 0; field < BLOCK_WORDS; field++) {
+        for (uint32_t p = 0; p < s->p; p++) {
+            to->blocks[field][p] = word_get(records, (size_t)BLOCK_WORDS * p + field);
+        }
+    }
+}
+
 static inline void load(store *to, const uint8_t *area, const sizes *s)
 {
     to->header_lock = word_get(area, WORD_HEADER_LOCK);
@@ -105,7 +116,7 @@ static inline void load(store *to, const uint8_t *area, const sizes *s)
     load_words(to->records, area, thread_word(0, 0), (size_t)THREAD_WORDS * s->t);
     load_words(to->map, area, map_word(s, 0), s->n);
     load_words(to->locks, area, lock_word(s, 0), s->n);
-    load_words(to->blocks, area, block_word(s, 0, 0), (size_t)BLOCK_WORDS * s->p);
+    load_blocks(to, area, s);
 }
 
 uint64_t filled_step(uint8_t *area, size_t len, uint32_t thread)

@@ -15,7 +15,9 @@ use Rattle.machine.specs.Judging.{Sees, nearOf, ownOf, headerOf}
 
 -- the words near a record are those of the working store
 pub near-sees :
-    (w : Working) (r : Thread) {x : Near} → x ≡ nearOf r (w .p) (w .d) (w .lock) (w .owner) (table (w .map)) (table (w .locks)) (w .blocks) → Sees (view w) r x
+    (w : Working) (r : Thread) {x : Near} →
+    x ≡ nearOf r (w .p) (w .d) (w .lock) (w .owner) (table (w .map)) (table (w .locks)) (table (w .header)) (table (w .content)) (table (w .wear)) (table (w .own)) →
+    Sees (view w) r x
 near-sees w r e =
     record {
       blocks = ap (λ x. x .blocks) e;

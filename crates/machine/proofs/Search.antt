@@ -1,25 +1,23 @@
 -- The searches among the first k blocks, one block more at a time: what their loops go by. Assumes nothing.
 use mathlib.Core.Path.{_≡_, refl, _∙_, sym, ap, ap₂}
 use mathlib.Core.Bool.{Bool, true, false, not, cond}
-use Prim.Native.Nat.{ℕ, zero, suc, _+_, _-_, _<_, _≤_}
+use Prim.Native.Nat.{ℕ, zero, suc, _+_, _<_, _≤_}
 use native.Mathlib.Numerals.{add-one}
 use native.Mathlib.Decide.{decLt}
 use native.Mathlib.Omega.{arith}
-use lib.Dec.{eqb, ltb}
-use borrow.Author.Tests.{ne-eqb, lt-ltb, le-ltb, ltb-true, ltb-false, not-true, not-false}
+use lib.Dec.{ltb}
+use borrow.Author.Tests.{eq-eqb, ne-eqb, lt-ltb, le-ltb}
 use Rattle.meaning.specs.declared.Found.{Found}
 use Rattle.meaning.specs.declared.Found.the-variants.{Nobody, At}
 use Rattle.meaning.specs.Choosing.{lowestFree, challenge, best, toBlock, leastWorn, fromBlock}
 use Rattle.meaning.specs.declared.Thread.{Thread}
-use Rattle.meaning.specs.declared.Reg.{Reg}
-use Rattle.meaning.specs.declared.Reg.the-variants.{P, Q}
 use Rattle.meaning.specs.Limits.{mostBlocks, mostWord}
 use Rattle.meaning.specs.Holding.{free}
 use Rattle.meaning.specs.Store.{Store}
 use Rattle.meaning.specs.declared.Effect.{Effect}
 use Rattle.meaning.specs.declared.Verdict.{Verdict}
 use Rattle.meaning.specs.Step.{next, setP, setQ, nothing}
-use Rattle.machine.specs.Judging.{placeOf, weightOf, soughtBy, chosenOf, Searches}
+use Rattle.machine.specs.Judging.{placeOf, chosenOf, Searches}
 
 -- ---- the lowest free block
 
@@ -55,113 +53,92 @@ best-below eligible beats (suc n) room h p =
     kept true Nobody q = omega arith
     kept true (At m) q = picked (beats n m) m q
 
--- ---- a search by weight
+-- what a search finds is below the bound on blocks
+pub to-below : (header wear : ℕ → ℕ) (n : ℕ) {f : Found} → f ≡ toBlock header wear n → n ≤ mostBlocks → placeOf f < mostBlocks
+to-below header wear n e h = rw e (best-below (λ k. free (header k)) (λ k m. ltb (wear m) (wear k)) n mostBlocks h (omega arith))
 
--- which blocks are in question in the search for a register, and which of two beats the other
-abbrev eligible : Reg → (ℕ → ℕ) → ℕ → Bool
-eligible P header k = not (free (header k))
-eligible Q header k = free (header k)
+pub from-below : (header wear : ℕ → ℕ) (n : ℕ) {f : Found} → f ≡ leastWorn header wear n → n ≤ mostBlocks → placeOf f < mostBlocks
+from-below header wear n e h = rw e (best-below (λ k. not (free (header k))) (λ k m. ltb (wear k) (wear m)) n mostBlocks h (omega arith))
 
-abbrev beats : Reg → (ℕ → ℕ) → ℕ → ℕ → Bool
-beats P wear k m = ltb (wear k) (wear m)
-beats Q wear k m = ltb (wear m) (wear k)
+-- ---- a search that keeps a mark of the best
 
-abbrev pub weighing : Reg → (ℕ → ℕ) → (ℕ → ℕ) → ℕ → ℕ
-weighing b header wear k = weightOf b (header k) (wear k)
-
--- what a loop has found of the blocks passed: nobody, or the first of the heaviest, with its weight
-pub data Held (weight : ℕ → ℕ) : Found → ℕ → ℕ → Type 0 where
-  nobody : (at : ℕ) → Held weight Nobody at 0
-  somebody : (m : ℕ) → 0 < weight m → Held weight (At m) m (weight m)
-
--- weights that tell which blocks are in question, and which of two beats the other
-pub record Weighs (eligible : ℕ → Bool) (beats : ℕ → ℕ → Bool) (weight : ℕ → ℕ) (k : ℕ) : Type 0 where
-  pub light : eligible k ≡ false → weight k ≡ 0
-  pub heavy : eligible k ≡ true → 0 < weight k
-  pub heavier : (m : ℕ) → 0 < weight k → 0 < weight m → beats k m ≡ ltb (weight m) (weight k)
-
--- one block more
-pub held-more :
-    {eligible : ℕ → Bool} {beats : ℕ → ℕ → Bool} {weight : ℕ → ℕ} {k at most : ℕ} (x : ℕ) → x ≡ weight k → Weighs eligible beats weight k →
-    Held weight (best eligible beats k) at most →
-    Held weight (best eligible beats (k + 1)) (cond (ltb most x) k at) (cond (ltb most x) x most)
-held-more {eligible} {beats} {weight} {k} {at} {most} x q w h = rw (add-one, q) (by-test (eligible k) (w .light) (w .heavy) h)
-  where
-    by-beating :
-        (m : ℕ) (b d : Bool) → d ≡ b → 0 < weight k → 0 < weight m →
-        Held weight (cond d (At k) (At m)) (cond b k m) (cond b (weight k) (weight m))
-    by-beating m true d e i j = rw e (somebody k i)
-    by-beating m false d e i j = rw e (somebody m j)
-
-    by-held :
-        {f : Found} {at most : ℕ} → 0 < weight k → Held weight f at most →
-        Held weight (challenge true beats k f) (cond (ltb most (weight k)) k at) (cond (ltb most (weight k)) (weight k) most)
-    by-held i (nobody at) = rw (lt-ltb 0 (weight k) i) (somebody k i)
-    by-held i (somebody m j) = by-beating m (ltb (weight m) (weight k)) (beats k m) (w .heavier m i j) i j
-
-    by-test :
-        {f : Found} (b : Bool) → (b ≡ false → weight k ≡ 0) → (b ≡ true → 0 < weight k) → Held weight f at most →
-        Held weight (challenge b beats k f) (cond (ltb most (weight k)) k at) (cond (ltb most (weight k)) (weight k) most)
-    by-test true l g h = by-held (g refl) h
-    by-test false l g h = rw (l refl, le-ltb most 0 (omega arith)) h
-
--- two tests that hold together
-ltb-alike : (a b c d : ℕ) → (a < b → c < d) → (b ≤ a → d ≤ c) → ltb a b ≡ ltb c d
-ltb-alike a b c d f g = by-test (ltb a b) refl
-  where
-    by-test : (t : Bool) → ltb a b ≡ t → t ≡ ltb c d
-    by-test true e = sym (lt-ltb c d (f (ltb-true a b e)))
-    by-test false e = sym (le-ltb c d (g (ltb-false a b e)))
-
--- L3's weights
-weighs : (b : Reg) (header wear : ℕ → ℕ) (k : ℕ) → wear k ≤ mostWord → Weighs (eligible b header) (beats b wear) (weighing b header wear) k
-weighs P header wear k h =
-    record {
-      light = λ e. rw (not-false (free (header k)) e);
-      heavy = λ e. rw (not-true (free (header k)) e) (omega arith);
-      heavier = λ m. by-headers (free (header k)) (free (header m)) (wear k) (wear m);
-    }
-  where
-    by-headers :
-        (f g : Bool) (x y : ℕ) → 0 < cond f 0 (mostWord + 1 - x) → 0 < cond g 0 (mostWord + 1 - y) →
-        ltb x y ≡ ltb (cond g 0 (mostWord + 1 - y)) (cond f 0 (mostWord + 1 - x))
-    by-headers true g x y i j = absurd (omega arith)
-    by-headers false true x y i j = absurd (omega arith)
-    by-headers false false x y i j = ltb-alike x y (mostWord + 1 - y) (mostWord + 1 - x) (λ l. omega arith) (λ l. omega arith)
-weighs Q header wear k h =
-    record {
-      light = λ e. rw e;
-      heavy = λ e. rw e (omega arith);
-      heavier = λ m. by-headers (free (header k)) (free (header m)) (wear k) (wear m);
-    }
-  where
-    by-headers :
-        (f g : Bool) (x y : ℕ) → 0 < cond f (x + 1) 0 → 0 < cond g (y + 1) 0 → ltb y x ≡ ltb (cond g (y + 1) 0) (cond f (x + 1) 0)
-    by-headers false g x y i j = absurd (omega arith)
-    by-headers true false x y i j = absurd (omega arith)
-    by-headers true true x y i j = ltb-alike y x (y + 1) (x + 1) (λ l. omega arith) (λ l. omega arith)
-
--- the search for p or q, one block more: it is heavier than all before it, or it is not
-pub sought-more :
-    (b : Reg) (header wear : ℕ → ℕ) {k at most : ℕ} (x : ℕ) → x ≡ weighing b header wear k → wear k ≤ mostWord →
-    Held (weighing b header wear) (soughtBy b header wear k) at most →
-    Held (weighing b header wear) (soughtBy b header wear (k + 1)) (cond (ltb most x) k at) (cond (ltb most x) x most)
-sought-more P header wear {k} x q w h = held-more x q (weighs P header wear k w) h
-sought-more Q header wear {k} x q w h = held-more x q (weighs Q header wear k w) h
-
-pub sought-none : (b : Reg) (header wear : ℕ → ℕ) → Held (weighing b header wear) (soughtBy b header wear 0) 0 0
-sought-none P header wear = nobody 0
-sought-none Q header wear = nobody 0
-
--- what is found is below the bound on blocks
-pub sought-below : (b : Reg) (header wear : ℕ → ℕ) (n : ℕ) {f : Found} → f ≡ soughtBy b header wear n → n ≤ mostBlocks → placeOf f < mostBlocks
-sought-below P header wear n e h = rw e (best-below (eligible P header) (beats P wear) n mostBlocks h (omega arith))
-sought-below Q header wear n e h = rw e (best-below (eligible Q header) (beats Q wear) n mostBlocks h (omega arith))
+-- what a loop has found of the blocks passed: nobody, and the mark is unset, or a block, and the mark is its
+pub data Held (mark : ℕ → ℕ) (unset : ℕ) : Found → ℕ → ℕ → Type 0 where
+  nobody : (at : ℕ) → Held mark unset Nobody at unset
+  somebody : (m : ℕ) → (mark m ≡ unset → ⊥) → Held mark unset (At m) m (mark m)
 
 -- what is found in the end
-pub held-done : {weight : ℕ → ℕ} {f : Found} {at most : ℕ} → Held weight f at most → cond (eqb most 0) Nobody (At at) ≡ f
-held-done (nobody at) = refl
-held-done {weight} (somebody m i) = rw (ne-eqb (weight m) 0 (omega arith))
+pub held-nobody : {mark : ℕ → ℕ} {unset : ℕ} {f : Found} {at bar : ℕ} → Held mark unset f at bar → bar ≡ unset → Nobody ≡ f
+held-nobody (nobody at) e = refl
+held-nobody (somebody m h) e = absurd (h e)
+
+pub held-somebody : {mark : ℕ → ℕ} {unset : ℕ} {f : Found} {at bar : ℕ} → Held mark unset f at bar → (bar ≡ unset → ⊥) → At at ≡ f
+held-somebody (nobody at) e = absurd (e refl)
+held-somebody (somebody m h) e = refl
+
+-- one block more: it is not in question, or beats what was found, or does not
+module _ (eligible : ℕ → Bool) (beats : ℕ → ℕ → Bool) {mark : ℕ → ℕ} {unset k at bar : ℕ} (h : Held mark unset (best eligible beats k) at bar) where
+  pub held-passes : eligible k ≡ false → Held mark unset (best eligible beats (k + 1)) at bar
+  held-passes e = rw (add-one, e) h
+
+  pub held-takes :
+      eligible k ≡ true → (mark k ≡ unset → ⊥) → ((m : ℕ) → bar ≡ mark m → beats k m ≡ true) →
+      Held mark unset (best eligible beats (k + 1)) k (mark k)
+  held-takes e u w = rw (add-one, e) (taken h w)
+    where
+      taken :
+          {f : Found} {at bar : ℕ} → Held mark unset f at bar → ((m : ℕ) → bar ≡ mark m → beats k m ≡ true) →
+          Held mark unset (challenge true beats k f) k (mark k)
+      taken (nobody at) w = somebody k u
+      taken (somebody m i) w = rw (w m refl) (somebody k u)
+
+  pub held-stays :
+      eligible k ≡ true → (bar ≡ unset → ⊥) → ((m : ℕ) → bar ≡ mark m → beats k m ≡ false) →
+      Held mark unset (best eligible beats (k + 1)) at bar
+  held-stays e u w = rw (add-one, e) (stayed h u w)
+    where
+      stayed :
+          {f : Found} {at bar : ℕ} → Held mark unset f at bar → (bar ≡ unset → ⊥) → ((m : ℕ) → bar ≡ mark m → beats k m ≡ false) →
+          Held mark unset (challenge true beats k f) at bar
+      stayed (nobody at) u w = absurd (u refl)
+      stayed (somebody m i) u w = rw (w m refl) (somebody m i)
+
+-- "to", marked by one more than its wear
+abbrev pub ToHeld : (ℕ → ℕ) → (ℕ → ℕ) → ℕ → ℕ → ℕ → Type 0
+ToHeld header wear k at bar = Held (λ m. wear m + 1) 0 (toBlock header wear k) at bar
+
+-- "from", marked by its wear, and by more than any word where there is none
+abbrev pub FromHeld : (ℕ → ℕ) → (ℕ → ℕ) → ℕ → ℕ → ℕ → Type 0
+FromHeld header wear k at least = Held wear (mostWord + 1) (leastWorn header wear k) at least
+
+module _ (header wear : ℕ → ℕ) (k : ℕ) {at mark : ℕ} where
+  pub to-passes : ToHeld header wear k at mark → (header k ≡ 0 → ⊥) → ToHeld header wear (k + 1) at mark
+  to-passes h e = held-passes (λ m. free (header m)) (λ x m. ltb (wear m) (wear x)) h (ne-eqb (header k) 0 e)
+
+  pub to-takes : ToHeld header wear k at mark → header k ≡ 0 → mark ≤ wear k → ToHeld header wear (k + 1) k (wear k + 1)
+  to-takes h e l =
+      held-takes (λ m. free (header m)) (λ x m. ltb (wear m) (wear x)) h (eq-eqb (header k) 0 e) (λ q. omega arith)
+      (λ m q. lt-ltb (wear m) (wear k) (omega arith))
+
+  pub to-stays : ToHeld header wear k at mark → header k ≡ 0 → wear k < mark → ToHeld header wear (k + 1) at mark
+  to-stays h e l =
+      held-stays (λ m. free (header m)) (λ x m. ltb (wear m) (wear x)) h (eq-eqb (header k) 0 e) (λ q. omega arith)
+      (λ m q. le-ltb (wear m) (wear k) (omega arith))
+
+  pub from-passes : FromHeld header wear k at mark → header k ≡ 0 → FromHeld header wear (k + 1) at mark
+  from-passes h e = held-passes (λ m. not (free (header m))) (λ x m. ltb (wear x) (wear m)) h (ap not (eq-eqb (header k) 0 e))
+
+  pub from-takes :
+      FromHeld header wear k at mark → (header k ≡ 0 → ⊥) → wear k ≤ mostWord → wear k < mark → FromHeld header wear (k + 1) k (wear k)
+  from-takes h e f l =
+      held-takes (λ m. not (free (header m))) (λ x m. ltb (wear x) (wear m)) h (ap not (ne-eqb (header k) 0 e)) (λ q. omega arith)
+      (λ m q. lt-ltb (wear k) (wear m) (omega arith))
+
+  pub from-stays :
+      FromHeld header wear k at mark → (header k ≡ 0 → ⊥) → wear k ≤ mostWord → mark ≤ wear k → FromHeld header wear (k + 1) at mark
+  from-stays h e f l =
+      held-stays (λ m. not (free (header m))) (λ x m. ltb (wear x) (wear m)) h (ap not (ne-eqb (header k) 0 e)) (λ q. omega arith)
+      (λ m q. le-ltb (wear k) (wear m) (omega arith))
 
 -- ---- from and to
 

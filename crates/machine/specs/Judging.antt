@@ -1,9 +1,8 @@
 -- What the functions that judge a step take for granted, and the store that they are given as words and arrays.
 use mathlib.Core.Path.{_≡_}
-use mathlib.Core.Bool.{Bool, not, cond, _&&_}
-use mathlib.Core.List.{List}
+use mathlib.Core.Bool.{Bool, not, _&&_}
 use lib.Dec.{eqb, ltb}
-use Prim.Native.Nat.{ℕ, _+_, _-_, _<_, _≤_}
+use Prim.Native.Nat.{ℕ, _<_, _≤_}
 use Rattle.meaning.specs.declared.Thread.{Thread}
 use Rattle.meaning.specs.declared.Found.{Found}
 use Rattle.meaning.specs.declared.Found.the-variants.{Nobody, At}
@@ -16,23 +15,12 @@ use Rattle.meaning.specs.declared.Reg.the-variants.{P, Q}
 use Rattle.meaning.specs.Holding.{free}
 use Rattle.meaning.specs.Choosing.{lowestFree, toBlock, leastWorn}
 use Rattle.meaning.specs.Step.{need, next, setP, choosing, nothing}
-use Rattle.store.specs.Live.{headers, contents, wears, owners}
 use Rattle.machine.specs.declared.Near.{Near}
 
 -- the block that was found, 0 for none
 abbrev pub placeOf : Found → ℕ
 placeOf Nobody = 0
 placeOf (At m) = m
-
--- what a block weighs in L3's search for p, the mapped block with least wear, or for q, the free block with most
-abbrev pub weightOf : Reg → ℕ → ℕ → ℕ
-weightOf P header wear = cond (free header) 0 (mostWord + 1 - wear)
-weightOf Q header wear = cond (free header) (wear + 1) 0
-
--- L3's "from", for p, and "to", for q
-abbrev pub soughtBy : Reg → (ℕ → ℕ) → (ℕ → ℕ) → ℕ → Found
-soughtBy P header wear blocks = leastWorn header wear blocks
-soughtBy Q header wear blocks = toBlock header wear blocks
 
 -- L3's verdict where the headers are owned, of the tables and numbers that it looks at
 abbrev pub chosenOf : (ℕ → ℕ) → (ℕ → ℕ) → ℕ → ℕ → Thread → Verdict
@@ -58,8 +46,9 @@ pub record Searches (s : Store) (header wear : ℕ → ℕ) : Type 0 where
   pub header-same : header ≡ s .header
   pub wear-same : wear ≡ s .wear
 
-abbrev pub nearOf : Thread → ℕ → ℕ → ℕ → ℕ → (ℕ → ℕ) → (ℕ → ℕ) → List ℕ → Near
-nearOf r blocks distance lock owner map locks records =
+abbrev pub nearOf :
+    Thread → ℕ → ℕ → ℕ → ℕ → (ℕ → ℕ) → (ℕ → ℕ) → (ℕ → ℕ) → (ℕ → ℕ) → (ℕ → ℕ) → (ℕ → ℕ) → Near
+nearOf r blocks distance lock owner map locks header content wear own =
     record {
       blocks = blocks;
       distance = distance;
@@ -67,12 +56,12 @@ nearOf r blocks distance lock owner map locks records =
       owner = owner;
       map = map (r .n);
       locks = locks (r .n);
-      «header_p» = headers records (r .p);
-      «header_q» = headers records (r .q);
-      «content_p» = contents records (r .p);
-      «wear_p» = wears records (r .p);
-      «own_p» = owners records (r .p);
-      «own_q» = owners records (r .q);
+      «header_p» = header (r .p);
+      «header_q» = header (r .q);
+      «content_p» = content (r .p);
+      «wear_p» = wear (r .p);
+      «own_p» = own (r .p);
+      «own_q» = own (r .q);
     }
 
 -- W5's verdict where the headers are owned, of the headers and how many blocks there are

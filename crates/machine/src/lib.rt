@@ -5,12 +5,12 @@ ghost use Prim.Native.Nat.{_<_, _≤_};
 ghost use Rattle.meaning.specs.Store.{Store as StoreOf};
 ghost use Rattle.meaning.specs.Limits.{mostNumbers, mostBlocks, mostWord};
 ghost use Rattle.meaning.specs.Programs.{actAt};
-ghost use Rattle.meaning.specs.Choosing.{lowestFree, fromBlock};
+ghost use Rattle.meaning.specs.Choosing.{lowestFree, toBlock, leastWorn, fromBlock};
 ghost use Rattle.meaning.specs.Step.{perform, apply as applyOf};
-ghost use Rattle.store.specs.Live.{table, headers, wears, Live, EntryBelow, withEffect};
+ghost use Rattle.store.specs.Live.{table, Live, EntryBelow, withEffect};
 ghost use Rattle.machine.specs.Settling.{EffectInside, Stored, unblocked, onBlocks};
 ghost use Rattle.store.specs.Area.{decode};
-ghost use Rattle.machine.specs.Judging.{placeOf, weightOf, soughtBy, chosenOf, pickedOf, ownOf, headerOf, headsOf, touchesOf, Sees, Searches, nearOf, Steady, AtLine};
+ghost use Rattle.machine.specs.Judging.{placeOf, chosenOf, pickedOf, ownOf, headerOf, headsOf, touchesOf, Sees, Searches, nearOf, Steady, AtLine};
 use acts::answer;
 use acts::block;
 use acts::branch;
@@ -50,7 +50,7 @@ use meaning::Verdict::Fault;
 use meaning::Word;
 use store::Store;
 
-// What a line may look at, the searches' block records left out: how many blocks there are, the levelling distance, and the words of H, of
+// What a line may look at, the searches' tables left out: how many blocks there are, the levelling distance, and the words of H, of
 // the headers' owner, of number n and of blocks p and q.
 struct Near {
     pub blocks: u32,
@@ -67,23 +67,22 @@ struct Near {
     pub own_q: u32,
 }
 
-// The words of all block records.
-type Records = [u32; Store::BLOCK_CELLS];
+// A word for each block: the headers, the contents, the wear or the owners.
+type Blocks = [u32; Store::MAX_P];
 
-// ---- searches among the block records
+// ---- searches among the blocks
 
 // W5: the lowest-numbered free block, or how many blocks there are where none is free.
-fn lowest_free(records: &Records, blocks: u32) -> u32
+fn lowest_free(header: &Blocks, blocks: u32) -> u32
     requires { ⌜ blocks ≤ mostBlocks ⌝ }
-    ensures { λ r. ⌜ r ≡ lowestFree (headers (now (records .entry))) blocks ⌝ }
+    ensures { λ r. ⌜ r ≡ lowestFree (table (now (header .entry))) blocks ⌝ }
 {
     let mut k: u32 = 0;
     loop {
         if k == blocks {
             break blocks;
         }
-        let i = store::BLOCK_WORDS * (k as usize);
-        if records[i] == 0 {
+        if header[k as usize] == 0 {
             break k;
         }
         k += 1;
@@ -96,38 +95,55 @@ fn long(x: u32) -> u64
     x as u64
 }
 
-// More than any word.
-const BEYOND: u64 = 4294967296;
-
-// What a block weighs in L3's search for p, the mapped block with least wear, or for q, the free block with most: 0 where it is not in
-// question, and else more than the blocks that it beats.
-fn weight(b: Reg, header: u32, wear: u32) -> u64
-    ensures { λ r. ⌜ (r ≡ weightOf b header wear) × (wear ≤ mostWord) ⌝ }
-{
-    match b {
-        P => { if header == 0 { 0 } else { BEYOND - long(wear) } }
-        Q => { if header == 0 { long(wear) + 1 } else { 0 } }
-    }
-}
-
-// L3's "from", for p, or "to", for q: the lowest number on ties.
-fn heaviest(b: Reg, records: &Records, blocks: u32) -> Found
+// L3's "to": the free block with most wear, the lowest number on ties. `bar` is the least wear that beats what was found, 0 at first.
+fn to_block<'a>(header: &'a Blocks, wear: &'a Blocks, blocks: u32) -> Found
     requires { ⌜ blocks ≤ mostBlocks ⌝ }
-    ensures { λ r. ⌜ r ≡ soughtBy b (headers (now (records .entry))) (wears (now (records .entry))) blocks ⌝ }
+    ensures { λ r. ⌜ r ≡ toBlock (table (now (header .entry))) (table (now (wear .entry))) blocks ⌝ }
 {
     let mut at: u32 = 0;
-    let mut most: u64 = 0;
+    let mut bar: u64 = 0;
     let mut k: u32 = 0;
     while k < blocks {
-        let i = store::BLOCK_WORDS * (k as usize);
-        let x = weight(b, records[i], records[i + store::WEAR]);
-        if most < x {
-            at = k;
-            most = x;
+        let i = k as usize;
+        if header[i] == 0 {
+            let w = long(wear[i]);
+            if bar <= w {
+                at = k;
+                bar = w + 1;
+            }
         }
         k += 1;
     }
-    if most == 0 {
+    if bar == 0 {
+        Found::Nobody
+    } else {
+        Found::At(at)
+    }
+}
+
+// More than any word.
+const BEYOND: u64 = 4294967296;
+
+// L3's "from": the mapped block with least wear, the lowest number on ties. `least` is the wear of what was found, BEYOND at first.
+fn least_worn<'a>(header: &'a Blocks, wear: &'a Blocks, blocks: u32) -> Found
+    requires { ⌜ blocks ≤ mostBlocks ⌝ }
+    ensures { λ r. ⌜ r ≡ leastWorn (table (now (header .entry))) (table (now (wear .entry))) blocks ⌝ }
+{
+    let mut at: u32 = 0;
+    let mut least: u64 = BEYOND;
+    let mut k: u32 = 0;
+    while k < blocks {
+        let i = k as usize;
+        if header[i] != 0 {
+            let w = long(wear[i]);
+            if w < least {
+                at = k;
+                least = w;
+            }
+        }
+        k += 1;
+    }
+    if least == BEYOND {
         Found::Nobody
     } else {
         Found::At(at)
@@ -135,16 +151,14 @@ fn heaviest(b: Reg, records: &Records, blocks: u32) -> Found
 }
 
 // "If there is no mapped block, or wear of 'to' is less than wear of 'from' plus D, then 'from' becomes 'to'": the sum doesn't wrap.
-fn from_block(records: &Records, distance: u32, to: u32, found: Found) -> u32
+fn from_block(wear: &Blocks, distance: u32, to: u32, found: Found) -> u32
     requires { ⌜ (to < mostBlocks) × (placeOf found < mostBlocks) ⌝ }
-    ensures { λ r. ⌜ r ≡ fromBlock (wears (now (records .entry))) distance to found ⌝ }
+    ensures { λ r. ⌜ r ≡ fromBlock (table (now (wear .entry))) distance to found ⌝ }
 {
     match found {
         Found::Nobody => to,
         Found::At(f) => {
-            let i = store::BLOCK_WORDS * (to as usize) + store::WEAR;
-            let j = store::BLOCK_WORDS * (f as usize) + store::WEAR;
-            if long(records[i]) < long(records[j]) + long(distance) {
+            if long(wear[to as usize]) < long(wear[f as usize]) + long(distance) {
                 return to;
             }
             f
@@ -153,16 +167,22 @@ fn from_block(records: &Records, distance: u32, to: u32, found: Found) -> u32
 }
 
 // L3, where the headers are owned.
-fn choose(records: &Records, blocks: u32, distance: u32, r: Thread) -> Verdict
+fn choose<'a>(
+    header: &'a Blocks,
+    wear: &'a Blocks,
+    blocks: u32,
+    distance: u32,
+    r: Thread,
+) -> Verdict
     requires { ⌜ (blocks ≤ mostBlocks) × (r .line < mostWord) ⌝ }
-    ensures { λ v. ⌜ v ≡ chosenOf (headers (now (records .entry))) (wears (now (records .entry))) blocks distance r ⌝ }
+    ensures { λ v. ⌜ v ≡ chosenOf (table (now (header .entry))) (table (now (wear .entry))) blocks distance r ⌝ }
 {
-    let to = heaviest(Q, records, blocks);
-    let from = heaviest(P, records, blocks);
+    let to = to_block(header, wear, blocks);
+    let from = least_worn(header, wear, blocks);
     match to {
         Found::Nobody => Fault,
         Found::At(q) => {
-            let p = from_block(records, distance, q, from);
+            let p = from_block(wear, distance, q, from);
             next(set_q(q, set_p(p, r)), nothing())
         }
     }
@@ -203,18 +223,25 @@ fn touches(x: Near, me: u32, b: Reg) -> bool
 }
 
 // W5, where the headers are owned.
-fn pick(records: &Records, blocks: u32, r: Thread) -> Verdict
+fn pick(header: &Blocks, blocks: u32, r: Thread) -> Verdict
     requires { ⌜ (blocks ≤ mostBlocks) × (r .line < mostWord) ⌝ }
-    ensures { λ v. ⌜ v ≡ pickedOf (headers (now (records .entry))) blocks r ⌝ }
+    ensures { λ v. ⌜ v ≡ pickedOf (table (now (header .entry))) blocks r ⌝ }
 {
-    let p = lowest_free(records, blocks);
+    let p = lowest_free(header, blocks);
     need(p < blocks, next(set_p(p, r), nothing()))
 }
 
 // What the act would do: an arm an act, as in specs/Step.antt. `me` is the word of what thread t holds or owns.
-fn judge_act(act: Act, t: u32, r: Thread, x: Near, records: &Records) -> Verdict
+fn judge_act<'a>(
+    act: Act,
+    t: u32,
+    r: Thread,
+    x: Near,
+    header: &'a Blocks,
+    wear: &'a Blocks,
+) -> Verdict
     requires { ⌜ Steady t r × (x .blocks ≤ mostBlocks) ⌝ }
-    ensures { λ y. ⌜ ((s : StoreOf) → Sees s r x → Searches s (headers (now (records .entry))) (wears (now (records .entry))) → y ≡ perform act s t r) ⌝ }
+    ensures { λ y. ⌜ ((s : StoreOf) → Sees s r x → Searches s (table (now (header .entry))) (table (now (wear .entry))) → y ≡ perform act s t r) ⌝ }
 {
     let me = t + 1;
     match act {
@@ -233,8 +260,8 @@ fn judge_act(act: Act, t: u32, r: Thread, x: Near, records: &Records) -> Verdict
         GoIfUnmapped(l) => branch(x.map, goto(l, r), set_p(named(x.map), onward(r))),
         EmptyIfUnmapped(l) => branch(x.map, set_c(0, goto(l, r)), set_p(named(x.map), onward(r))),
         GoIfFree(l) => branch(r.h, goto(l, r), set_n(named(r.h), onward(r))),
-        PickFree => need(x.owner == me, pick(records, x.blocks, r)),
-        Choose => need(x.owner == me, choose(records, x.blocks, x.distance, r)),
+        PickFree => need(x.owner == me, pick(header, x.blocks, r)),
+        Choose => need(x.owner == me, choose(header, wear, x.blocks, x.distance, r)),
         ReadHeader => need(x.owner == me, next(set_h(x.header_p, r), nothing())),
         WriteHeaderN => need(heads(x, me, P), next(r, on_header(r.p, r.n + 1))),
         WriteHeaderH => need(heads(x, me, Q), next(r, on_header(r.q, r.h))),
@@ -256,14 +283,17 @@ fn words_near<'a>(
     owner: u32,
     map: &'a [u32; Store::MAX_N],
     locks: &'a [u32; Store::MAX_N],
-    records: &'a Records,
+    header: &'a Blocks,
+    content: &'a Blocks,
+    wear: &'a Blocks,
+    own: &'a Blocks,
 ) -> Near
     requires { ⌜ (r .n < mostNumbers) × (r .p < mostBlocks) × (r .q < mostBlocks) ⌝ }
-    ensures { λ x. ⌜ x ≡ nearOf r blocks distance lock owner (table (now (map .entry))) (table (now (locks .entry))) (now (records .entry)) ⌝ }
+    ensures { λ x. ⌜ x ≡ nearOf r blocks distance lock owner (table (now (map .entry))) (table (now (locks .entry))) (table (now (header .entry))) (table (now (content .entry))) (table (now (wear .entry))) (table (now (own .entry))) ⌝ }
 {
     let n = r.n as usize;
-    let p = store::BLOCK_WORDS * (r.p as usize);
-    let q = store::BLOCK_WORDS * (r.q as usize);
+    let p = r.p as usize;
+    let q = r.q as usize;
     Near {
         blocks,
         distance,
@@ -271,12 +301,12 @@ fn words_near<'a>(
         owner,
         map: map[n],
         locks: locks[n],
-        header_p: records[p],
-        header_q: records[q],
-        content_p: records[p + store::CONTENT],
-        wear_p: records[p + store::WEAR],
-        own_p: records[p + store::OWN],
-        own_q: records[q + store::OWN],
+        header_p: header[p],
+        header_q: header[q],
+        content_p: content[p],
+        wear_p: wear[p],
+        own_p: own[p],
+        own_q: own[q],
     }
 }
 
@@ -296,10 +326,10 @@ pub fn judge(area: &[u8], z: Sizes, t: u32, r: Thread) -> Verdict
     let act = acts::act_at(r.op, r.line);
     let map = store::map_at(z.t);
     let locks = store::locks_at(z.t, z.n);
-    let blocks = store::blocks_at(z.t, z.n);
+    let header = store::blocks_at(z.t, z.n);
     let threads = store::THREAD_WORDS * z.t;
-    let cells = store::BLOCK_WORDS * z.p;
     let numbers = z.n;
+    let blocks = z.p;
     let mut s = Store::fresh();
     s.t = store::word_at(area, store::T_AT);
     s.n = store::word_at(area, store::N_AT);
@@ -310,9 +340,24 @@ pub fn judge(area: &[u8], z: Sizes, t: u32, r: Thread) -> Verdict
     store::read_threads(area, store::THREADS_AT, threads, &mut s.threads);
     store::read_numbers(area, map, numbers, &mut s.map);
     store::read_numbers(area, locks, numbers, &mut s.locks);
-    store::read_blocks(area, blocks, cells, &mut s.blocks);
-    let near = words_near(r, s.p, s.d, s.lock, s.owner, &s.map, &s.locks, &s.blocks);
-    judge_act(act, t, r, near, &s.blocks)
+    store::read_blocks(area, header, blocks, &mut s.header);
+    store::read_blocks(area, header + store::CONTENT, blocks, &mut s.content);
+    store::read_blocks(area, header + store::WEAR, blocks, &mut s.wear);
+    store::read_blocks(area, header + store::OWN, blocks, &mut s.own);
+    let near = words_near(
+        r,
+        s.p,
+        s.d,
+        s.lock,
+        s.owner,
+        &s.map,
+        &s.locks,
+        &s.header,
+        &s.content,
+        &s.wear,
+        &s.own,
+    );
+    judge_act(act, t, r, near, &s.header, &s.wear)
 }
 
 // ---- doing it

@@ -10,6 +10,7 @@ use lib.ListN.{set, length, replicate, length-replicate, length-set}
 use lib.Seq.{getD-set-same, getD-set-other}
 use borrow.Author.Tests.{lt-ltb, le-ltb, ltb-true, ltb-false, eqb-true, eqb-false}
 use Rattle.meaning.specs.Table.{below}
+use Rattle.meaning.specs.Limits.{mostBlocks}
 use Rattle.meaning.specs.Store.{idle}
 use Rattle.store.specs.declared.Store.{Store as Working}
 use Rattle.store.specs.Layout.{tAt, nAt, pAt, dAt, lockAt, ownerAt, threadsAt, threadWords, mapAt, locksAt, blocksAt, blockWords, areaWords}
@@ -42,40 +43,42 @@ table-more l at from stride k {v} h e q = fun-ext λ j. by-entry j (eqb j k) ref
             let o : j ≡ k → ⊥ = eqb-false j k s in
             rw (t, le-ltb j (k + 1) (omega (arith, ltb-false j k t)))
 
--- an array with room for so many words holds the area's first k
-pub record Filled (at : ℕ → ℕ) (from count room k : ℕ) (l : List ℕ) : Type 0 where
+-- an array with room for so many words holds the column's first k
+pub record Filled (at : ℕ → ℕ) (from stride count room k : ℕ) (l : List ℕ) : Type 0 where
   pub most : k ≤ count
   pub long : length l ≡ room
-  pub holds : table l ≡ column at from 1 k
+  pub holds : table l ≡ column at from stride k
 
 -- before, in and after the loop
-pub filled-none : {a l : List ℕ} {from count : ℕ} (at : ℕ → ℕ) → Fills a from count l → Filled at from count (length l) 0 l
-filled-none {l = l} {from} at f =
-    record { most = omega arith; long = refl; holds = rw (f .zeroed) (table-none (length l) at from 1) }
+pub filled-none :
+    {a l : List ℕ} {from stride count : ℕ} (at : ℕ → ℕ) → Fills a from stride count l → Filled at from stride count (length l) 0 l
+filled-none {l = l} {from} {stride} at f =
+    record { most = omega arith; long = refl; holds = rw (f .zeroed) (table-none (length l) at from stride) }
 
 pub filled-more :
-    {at : ℕ → ℕ} {from count room k v : ℕ} {l : List ℕ} → Filled at from count room k l → k < count → count ≤ room →
-    v ≡ at (from + k) → Filled at from count room (k + 1) (set l k v)
-filled-more {at} {from} {k = k} {v} {l} f h g q =
-    let i : from + k ≡ from + 1 * k = omega arith in
+    {at : ℕ → ℕ} {from stride count room k v : ℕ} {l : List ℕ} → Filled at from stride count room k l → k < count → count ≤ room →
+    v ≡ at (from + stride * k) → Filled at from stride count room (k + 1) (set l k v)
+filled-more {at} {from} {stride} {k = k} {v} {l} f h g q =
     record {
       most = omega arith;
       long = length-set l k v ∙ f .long;
-      holds = table-more l at from 1 k (omega (arith, f .long)) (f .holds) (q ∙ ap at i);
+      holds = table-more l at from stride k (omega (arith, f .long)) (f .holds) q;
     }
 
-pub filled-done : {at : ℕ → ℕ} {from count room k : ℕ} {l : List ℕ} → Filled at from count room k l → count ≤ k → table l ≡ column at from 1 count
+pub filled-done :
+    {at : ℕ → ℕ} {from stride count room k : ℕ} {l : List ℕ} → Filled at from stride count room k l → count ≤ k →
+    table l ≡ column at from stride count
 filled-done {count = count} {k = k} f h = let i : k ≡ count = omega (arith, f .most) in rw (← i) (f .holds)
 
 -- ---- the working store of a live area
 
 -- an array of zeros may be filled with words of a live area
 pub fills :
-    {a : List ℕ} {t n p : ℕ} → Live a t n p → (from count room : ℕ) {into : List ℕ} → into ≡ replicate room 0 → count ≤ room →
-    from + count ≤ areaWords t n p → Fills a from count into
-fills v from count room {into} z h r =
+    {a : List ℕ} {t n p : ℕ} → Live a t n p → (from stride count room : ℕ) {into : List ℕ} → into ≡ replicate room 0 → count ≤ room → room ≤ mostBlocks →
+    ((k : ℕ) → k < count → from + stride * k < areaWords t n p) → Fills a from stride count into
+fills v from stride count room {into} z h m r =
     let e : length into ≡ room = rw z (length-replicate room 0) in
-    record { reach = λ k l. omega (arith, v .fits); fit = omega arith; zeroed = rw e z }
+    record { reach = λ k l. omega (arith, v .fits, r k l); fit = omega arith; few = omega arith; zeroed = rw e z }
 
 pub record Loaded (a : List ℕ) (t n p : ℕ) (w : Working) : Type 0 where
   pub sizeT : w .t ≡ word a tAt
@@ -87,7 +90,10 @@ pub record Loaded (a : List ℕ) (t n p : ℕ) (w : Working) : Type 0 where
   pub threads : table (w .threads) ≡ column (word a) threadsAt 1 (threadWords * t)
   pub map : table (w .map) ≡ column (word a) (mapAt t) 1 n
   pub locks : table (w .locks) ≡ column (word a) (locksAt t n) 1 n
-  pub blocks : table (w .blocks) ≡ column (word a) (blocksAt t n) 1 (blockWords * p)
+  pub header : table (w .header) ≡ column (word a) (blocksAt t n) blockWords p
+  pub content : table (w .content) ≡ column (word a) (blocksAt t n + 1) blockWords p
+  pub wear : table (w .wear) ≡ column (word a) (blocksAt t n + 2) blockWords p
+  pub own : table (w .own) ≡ column (word a) (blocksAt t n + 3) blockWords p
 
 column-in : (at : ℕ → ℕ) (from count j m : ℕ) → j < count → m ≡ from + j → column at from 1 count j ≡ at m
 column-in at from count j m h e =
@@ -133,20 +139,8 @@ threads-loaded at t k = by-size (ltb k t) refl
           h = column-out at threadsAt (threadWords * t) (threadWords * k + 6) (omega arith) i;
         }
 
--- the words of the loaded block records that are j words behind the first
-blocks-loaded :
-    (at : ℕ → ℕ) (from from′ count j m i : ℕ) → j < blockWords → from′ ≡ from + j → i ≡ blockWords * m + j →
-    column at from 1 (blockWords * count) i ≡ column at from′ blockWords count m
-blocks-loaded at from from′ count j m i h d e = by-size (ltb m count) refl
-  where
-    by-size :
-        (b : Bool) → ltb m count ≡ b →
-        column at from 1 (blockWords * count) i ≡ cond b (at (from′ + blockWords * m)) 0
-    by-size true s = column-in at from (blockWords * count) i (from′ + blockWords * m) (omega (arith, ltb-true m count s)) (omega arith)
-    by-size false s = column-out at from (blockWords * count) i (omega (arith, ltb-false m count s))
-
 pub view-loaded : {a : List ℕ} {t n p : ℕ} {w : Working} → Live a t n p → Loaded a t n p w → view w ≡ decode a
-view-loaded {a} {t} {n} {p} {w} v l =
+view-loaded {a} {t} v l =
     (λ i.
     record {
       threads = (l .sizeT ∙ v .threads) i;
@@ -158,16 +152,9 @@ view-loaded {a} {t} {n} {p} {w} v l =
       thread = (ap (λ f k. threadFrom f (threadWords * k)) (l .threads) ∙ fun-ext (threads-loaded (word a) t)) i;
       map = l .map i;
       locks = l .locks i;
-      header = words (λ m. blockWords * m) (blocksAt t n) 0 (omega arith) (omega arith) (λ m. omega arith) i;
-      content = words (λ m. blockWords * m + 1) (blocksAt t n + 1) 1 (omega arith) refl (λ m. refl) i;
-      wear = words (λ m. blockWords * m + 2) (blocksAt t n + 2) 2 (omega arith) refl (λ m. refl) i;
-      own = words (λ m. blockWords * m + 3) (blocksAt t n + 3) 3 (omega arith) refl (λ m. refl) i;
+      header = l .header i;
+      content = l .content i;
+      wear = l .wear i;
+      own = l .own i;
     })
     ∙ sym (decode-live v)
-  where
-    words :
-        (at : ℕ → ℕ) (from j : ℕ) → j < blockWords → from ≡ blocksAt t n + j → ((m : ℕ) → at m ≡ blockWords * m + j) →
-        (λ m. table (w .blocks) (at m)) ≡ column (word a) from blockWords p
-    words at from j h d e =
-        ap {B = ℕ → ℕ} (λ f m. f (at m)) (l .blocks)
-        ∙ fun-ext (λ m. blocks-loaded (word a) (blocksAt t n) from p j m (at m) h d (e m))

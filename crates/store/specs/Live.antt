@@ -14,7 +14,7 @@ use Rattle.meaning.specs.Store.{Store}
 use Rattle.meaning.specs.declared.Effect.{Effect}
 use Rattle.meaning.specs.Step.{changed}
 use Rattle.store.specs.declared.Store.{Store as Working}
-use Rattle.store.specs.Layout.{tAt, nAt, pAt, threadWords, blockWords, size}
+use Rattle.store.specs.Layout.{tAt, nAt, pAt, threadWords, size}
 use Rattle.store.specs.Area.{word, threadFrom}
 
 pub record Live (a : List ℕ) (t n p : ℕ) : Type 0 where
@@ -61,10 +61,11 @@ pub record Small (r : Thread) : Type 0 where
   pub q : r .q ≤ mostWord
   pub h : r .h ≤ mostWord
 
--- what a reading loop asks: the words are within the area and fit the array, which is full of zeros
-pub record Fills (a : List ℕ) (from count : ℕ) (into : List ℕ) : Type 0 where
-  pub reach : Reaches a from 1 count
+-- what a reading loop asks: the words are within the area and fit the array, which is full of zeros and no longer than the working store's
+pub record Fills (a : List ℕ) (from stride count : ℕ) (into : List ℕ) : Type 0 where
+  pub reach : Reaches a from stride count
   pub fit : count ≤ length into
+  pub few : length into ≤ mostBlocks
   pub zeroed : into ≡ replicate (length into) 0
 
 -- ---- setters
@@ -101,19 +102,6 @@ putEntry a from stride (Put k v) = putWord a (from + stride * k) v
 abbrev pub table : List ℕ → ℕ → ℕ
 table l k = getD l k 0
 
--- the words of block records, as tables
-abbrev pub headers : List ℕ → ℕ → ℕ
-headers l m = table l (blockWords * m)
-
-abbrev pub contents : List ℕ → ℕ → ℕ
-contents l m = table l (blockWords * m + 1)
-
-abbrev pub wears : List ℕ → ℕ → ℕ
-wears l m = table l (blockWords * m + 2)
-
-abbrev pub owners : List ℕ → ℕ → ℕ
-owners l m = table l (blockWords * m + 3)
-
 -- the store that the working store's arrays stand for
 abbrev pub view : Working → Store
 view w =
@@ -127,10 +115,10 @@ view w =
       thread = λ k. threadFrom (table (w .threads)) (threadWords * k);
       map = table (w .map);
       locks = table (w .locks);
-      header = headers (w .blocks);
-      content = contents (w .blocks);
-      wear = wears (w .blocks);
-      own = owners (w .blocks);
+      header = table (w .header);
+      content = table (w .content);
+      wear = table (w .wear);
+      own = table (w .own);
     }
 
 -- "filled with zeros at full size, 512 blocks and 256 map entries"
@@ -146,7 +134,10 @@ zeroFilled =
       threads = replicate (threadWords * mostThreads) 0;
       map = replicate mostNumbers 0;
       locks = replicate mostNumbers 0;
-      blocks = replicate (blockWords * mostBlocks) 0;
+      header = replicate mostBlocks 0;
+      content = replicate mostBlocks 0;
+      wear = replicate mostBlocks 0;
+      own = replicate mostBlocks 0;
     }
 
 -- ---- doing it

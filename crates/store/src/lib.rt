@@ -6,7 +6,7 @@ ghost use lib.Dec.{leb};
 ghost use Rattle.meaning.specs.Table.{every};
 ghost use Rattle.meaning.specs.Limits.{mostThreads, mostNumbers, mostBlocks, inLimits};
 ghost use Rattle.meaning.specs.Programs.{lastLine};
-ghost use Rattle.store.specs.Layout.{threadsAt, threadWords, mapAt, locksAt, blocksAt, size};
+ghost use Rattle.store.specs.Layout.{threadsAt, threadWords, blockWords, mapAt, locksAt, blocksAt, size};
 ghost use Rattle.store.specs.Area.{word, threadFrom, column, decode, soundThread, inBounds, wellFormed};
 ghost use Rattle.store.specs.Live.{Live, Within, EntryWithin, BecomeFits, EntryFits, Small, Reaches, Fills, table, zeroFilled, putWord, putThread, putBecome, putEntry};
 use meaning::Thread;
@@ -15,8 +15,8 @@ use meaning::Word;
 
 // ---- the working store and the limits
 
-// The store inside the program: 16 thread records, 256 map entries and locks and 512 block records, each table's words in the area's
-// order. It is filled with zeros at full size before an area is read in.
+// The store inside the program: 16 thread records, 256 map entries and locks, and 512 headers, contents, wear and owners of blocks. It is
+// filled with zeros at full size before an area is read in.
 pub struct Store {
     pub t: u32,
     pub n: u32,
@@ -27,7 +27,10 @@ pub struct Store {
     pub threads: [u32; Store::THREAD_CELLS],
     pub map: [u32; Store::MAX_N],
     pub locks: [u32; Store::MAX_N],
-    pub blocks: [u32; Store::BLOCK_CELLS],
+    pub header: [u32; Store::MAX_P],
+    pub content: [u32; Store::MAX_P],
+    pub wear: [u32; Store::MAX_P],
+    pub own: [u32; Store::MAX_P],
 }
 
 impl Store {
@@ -42,14 +45,12 @@ impl Store {
 
     pub const MAX_D: u32 = 1000;
 
-    // The words of all thread records and of all block records.
+    // The words of all thread records.
     pub const THREAD_CELLS: usize = THREAD_WORDS * Store::MAX_T;
-
-    pub const BLOCK_CELLS: usize = BLOCK_WORDS * Store::MAX_P;
 
     // The length of the longest area, in bytes.
     pub const LONGEST: usize = 4
-        * (THREADS_AT + Store::THREAD_CELLS + 2 * Store::MAX_N + Store::BLOCK_CELLS);
+        * (THREADS_AT + Store::THREAD_CELLS + 2 * Store::MAX_N + BLOCK_WORDS * Store::MAX_P);
 
     // All zeros.
     pub fn fresh() -> Store
@@ -65,7 +66,10 @@ impl Store {
             threads: [0; Store::THREAD_CELLS],
             map: [0; Store::MAX_N],
             locks: [0; Store::MAX_N],
-            blocks: [0; Store::BLOCK_CELLS],
+            header: [0; Store::MAX_P],
+            content: [0; Store::MAX_P],
+            wear: [0; Store::MAX_P],
+            own: [0; Store::MAX_P],
         }
     }
 
@@ -324,36 +328,38 @@ pub fn set_thread(area: &mut [u8], k: usize, r: Thread)
 
 // ---- reading in
 
-// The area's words from a place on, into an array of zeros.
-fn read_words(area: &[u8], from: usize, count: usize, into: &mut [u32])
-    requires { ⌜ Fills (now area) from count (now into) ⌝ }
-    ensures { λ _. ⌜ table (now (into .exit)) ≡ column (word (now (area .entry))) from 1 count ⌝ }
+// A column of the area's words, at from, from + stride, .., into an array of zeros.
+fn read_column(area: &[u8], from: usize, stride: usize, count: usize, into: &mut [u32])
+    requires { ⌜ Fills (now area) from stride count (now into) ⌝ }
+    ensures { λ _. ⌜ table (now (into .exit)) ≡ column (word (now (area .entry))) from stride count ⌝ }
 {
     let mut k: usize = 0;
     while k < count {
-        into[k] = word_at(area, from + k);
+        let cell = from + stride * k;
+        into[k] = word_at(area, cell);
         k += 1;
     }
 }
 
-// The same for the arrays of the working store. A field can be lent only as the array that it is.
+// The same for the arrays of the working store: the thread records, the map or the locks, and a table of the block records. A field can be
+// lent only as the array that it is.
 pub fn read_threads(area: &[u8], from: usize, count: usize, into: &mut [u32; Store::THREAD_CELLS])
-    requires { ⌜ Fills (now area) from count (now into) ⌝ }
+    requires { ⌜ Fills (now area) from 1 count (now into) ⌝ }
     ensures { λ _. ⌜ table (now (into .exit)) ≡ column (word (now (area .entry))) from 1 count ⌝ }
 {
-    read_words(area, from, count, into);
+    read_column(area, from, 1, count, into);
 }
 
 pub fn read_numbers(area: &[u8], from: usize, count: usize, into: &mut [u32; Store::MAX_N])
-    requires { ⌜ Fills (now area) from count (now into) ⌝ }
+    requires { ⌜ Fills (now area) from 1 count (now into) ⌝ }
     ensures { λ _. ⌜ table (now (into .exit)) ≡ column (word (now (area .entry))) from 1 count ⌝ }
 {
-    read_words(area, from, count, into);
+    read_column(area, from, 1, count, into);
 }
 
-pub fn read_blocks(area: &[u8], from: usize, count: usize, into: &mut [u32; Store::BLOCK_CELLS])
-    requires { ⌜ Fills (now area) from count (now into) ⌝ }
-    ensures { λ _. ⌜ table (now (into .exit)) ≡ column (word (now (area .entry))) from 1 count ⌝ }
+pub fn read_blocks(area: &[u8], from: usize, count: usize, into: &mut [u32; Store::MAX_P])
+    requires { ⌜ Fills (now area) from blockWords count (now into) ⌝ }
+    ensures { λ _. ⌜ table (now (into .exit)) ≡ column (word (now (area .entry))) from blockWords count ⌝ }
 {
-    read_words(area, from, count, into);
+    read_column(area, from, BLOCK_WORDS, count, into);
 }

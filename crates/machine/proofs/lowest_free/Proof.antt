@@ -4,16 +4,16 @@ use mathlib.Core.Path.{_≡_, sym}
 use native.Mathlib.Omega.{arith}
 use borrow.Author.Needs.{needs}
 use Rattle.meaning.specs.Choosing.{lowestFree}
-use Rattle.store.specs.Live.{headers}
+use Rattle.store.specs.Live.{table}
 use Rattle.machine.proofs.Search.{lowest-more, lowest-found}
 use Rattle.machine.proofs.lowest_free.Statement.{statement}
 use Rattle.machine.proofs.lowest_free.Tie as tie
 
 abbrev Inv-loop : tie.InvT-loop
-Inv-loop records blocks k₀ k = (k ≤ blocks) × (lowestFree (headers records) k ≡ k)
+Inv-loop header blocks k₀ k = (k ≤ blocks) × (lowestFree (table header) k ≡ k)
 
 abbrev μ-loop : tie.MeasureT-loop
-μ-loop records blocks k₀ k = blocks - k
+μ-loop header blocks k₀ k = blocks - k
 
 loop-again : tie.Need-loop-again Inv-loop μ-loop
 loop-again c = (omega arith, lowest-more _ _ (c .before .before .before .loop .inv .1) (c .if2 .left))
@@ -29,5 +29,5 @@ returns-2 c = sym (lowest-found _ _ (c .before .before .before .before .args .bl
 pub lowest-free-spec : {M : Type 1} → statement M
 lowest-free-spec =
     tie.close
-    (tie.spec Inv-loop μ-loop (λ c. search needs) (λ c. omega arith) (λ c. omega arith) (λ c. omega arith) (λ c. omega arith)
+    (tie.spec Inv-loop μ-loop (λ c. search needs) (λ c. omega arith) (λ c. omega arith) (λ c. omega arith)
     (λ c. omega arith) (λ c. omega arith) loop-again returns returns-2)

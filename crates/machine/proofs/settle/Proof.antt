@@ -7,35 +7,41 @@ use Rattle.machine.proofs.Storing.{stored-start, stored-thread, stored-
 use Rattle.machine.proofs.settle.Statement.{statement}
 use Rattle.machine.proofs.settle.Tie as tie
 
--- with the thread's record
+-- from the thread's record: the function's start; from what touches no block: the record
+abbrev start : tie.After-set-thread → tie.Start
+start w = w .before .before .before
+
+abbrev thread-set : tie.After-settle-numbers → tie.After-set-thread
+thread-set w = w .before .before .before .before
+
 seated :
     (c : tie.After-set-thread) →
-    Stored (c .before .before .before .args .area .now) (c .set-thread .last .0) (c .before .before .before .args .z .t) (c .before .before .before .args .z .n) (c .before .before .before .args .z .p)
-    (apply (decode (c .before .before .before .args .area .now)) (c .before .before .before .args .k) (c .before .before .before .args .r) nothing)
+    Stored (start c .args .area .now) (c .set-thread .last .0) (start c .args .z .t) (start c .args .z .n) (start c .args .z .p)
+    (apply (decode (start c .args .area .now)) (start c .args .k) (start c .args .r) nothing)
 seated c =
-    let w = c .before .before .before in
-    stored-thread (stored-start (w .pre .0)) (w .args .k) (w .args .r) (c .set-thread .ensures .0) (c .set-thread .ensures .1)
-    (w .pre .1)
+    let w = start c in
+    stored-thread (stored-start (w .pre .0)) (w .args .k) (w .args .r) (c .set-thread .ensures .0) (c .set-thread .ensures .1) (w .pre .1)
 
 settle-numbers-requires : tie.Need-settle-numbers-requires
 settle-numbers-requires c κs =
-    let w = c .before .before .before .before .before .before in
-    (seated (c .before .before .before) .live, w .pre .2 .map, w .pre .2 .locks)
+    let s = c .before .before .before in
+    (seated s .live, start s .pre .2 .map, start s .pre .2 .locks)
 
 settle-blocks-requires : tie.Need-settle-blocks-requires
 settle-blocks-requires c κs =
-    let w = c .before .before .before .before .before .before .before .before .before .before in
-    (c .before .before .before .settle-numbers .ensures .live, w .pre .2 .header, w .pre .2 .content, w .pre .2 .wear, w .pre .2 .own)
+    let n = c .before .before .before in
+    let e = start (thread-set n) .pre .2 in
+    (n .settle-numbers .ensures .live, e .header, e .content, e .wear, e .own)
 
 returns : tie.Need-returns
 returns c =
-    let w = c .before .before .before .before .before .before .before .before .before .before .before .before .before in
-    let e = w .args .e in
-    let r₁ = seated (c .before .before .before .before .before .before .before .before .before .before) in
-    let r₂ = c .before .before .before .before .before .before .settle-numbers .ensures in
-    let r₃ = c .before .before .settle-blocks .ensures in
+    let blocks = c .before .before in
+    let numbers = blocks .before .before .before .before in
+    let record-set = thread-set numbers in
+    let e = start record-set .args .e in
     stored-withEffect (onBlocks (e .header) (e .content) (e .wear) (e .own))
-    (stored-withEffect (unblocked (e .lock) (e .owner) (e .map) (e .locks)) r₁ r₂) r₃
+    (stored-withEffect (unblocked (e .lock) (e .owner) (e .map) (e .locks)) (seated record-set) (numbers .settle-numbers .ensures))
+    (blocks .settle-blocks .ensures)
 
 pub settle-spec : {M : Type 1} → statement M
 settle-spec =

@@ -1,5 +1,8 @@
 -- `machine::settle_numbers` meets its contract, a setter after the other. Assumes nothing.
+use mathlib.Core.List.{List}
+use Prim.Native.Nat.{ℕ}
 use borrow.Author.Needs.{needs}
+use Rattle.meaning.specs.Store.{Store}
 use Rattle.store.specs.Layout.{mapAt, locksAt}
 use Rattle.store.specs.Area.{decode}
 use Rattle.store.specs.Live.{withEffect}
@@ -9,52 +12,68 @@ use Rattle.machine.proofs.Storing.{stored-start, stored-lock, stored-ow
 use Rattle.machine.proofs.settle_numbers.Statement.{statement}
 use Rattle.machine.proofs.settle_numbers.Tie as tie
 
--- H and the headers' owner
-owned :
-    (c : tie.After-set-word2) →
-    Stored (c .before .before .before .before .before .before .before .before .before .args .area .now) (c .set-word2 .last .0) (c .before .before .before .before .before .before .before .before .before .args .z .t) (c .before .before .before .before .before .before .before .before .before .args .z .n) (c .before .before .before .before .before .before .before .before .before .args .z .p)
-    (withEffect (withEffect (decode (c .before .before .before .before .before .before .before .before .before .args .area .now)) (lockOnly (c .before .before .before .before .before .before .before .before .before .args .lock))) (ownerOnly (c .before .before .before .before .before .before .before .before .before .args .owner)))
-owned c =
-    let w = c .before .before .before .before .before .before .before .before .before in
-    stored-owner
-    (stored-lock (stored-start (w .pre .0)) (w .args .lock) (c .before .before .before .before .set-word .ensures .0) (c .before .before .before .before .set-word .ensures .1))
-    (w .args .owner) (c .set-word2 .ensures .0) (c .set-word2 .ensures .1)
+-- from the headers' owner: where the tables begin, and the function's start
+abbrev begins : tie.After-set-word2 → tie.After-locks-at
+begins w = w .before .before .before .before .before .before
 
--- and the map
-mapped :
-    (c : tie.After-set-entry) →
-    Stored (c .before .before .before .before .before .before .before .before .before .before .before .before .before .args .area .now) (c .set-entry .last .0) (c .before .before .before .before .before .before .before .before .before .before .before .before .before .args .z .t) (c .before .before .before .before .before .before .before .before .before .before .before .before .before .args .z .n) (c .before .before .before .before .before .before .before .before .before .before .before .before .before .args .z .p)
-    (withEffect
-    (withEffect (withEffect (decode (c .before .before .before .before .before .before .before .before .before .before .before .before .before .args .area .now)) (lockOnly (c .before .before .before .before .before .before .before .before .before .before .before .before .before .args .lock))) (ownerOnly (c .before .before .before .before .before .before .before .before .before .before .before .before .before .args .owner)))
-    (mapOnly (c .before .before .before .before .before .before .before .before .before .before .before .before .before .args .map)))
+abbrev start : tie.After-set-word2 → tie.Start
+start w = begins w .before .before .before
+
+-- from the map: the headers' owner
+abbrev owner-set : tie.After-set-entry → tie.After-set-word2
+owner-set w = w .before .before .before .before
+
+-- the area b is left, which holds store s
+abbrev Left : tie.Start → List ℕ → Store → Type 0
+Left w b s = Stored (w .args .area .now) b (w .args .z .t) (w .args .z .n) (w .args .z .p) s
+
+-- with H and the headers' owner, and then with the map
+abbrev withOwner : tie.Start → Store
+withOwner w = withEffect (withEffect (decode (w .args .area .now)) (lockOnly (w .args .lock))) (ownerOnly (w .args .owner))
+
+abbrev withMap : tie.Start → Store
+withMap w = withEffect (withOwner w) (mapOnly (w .args .map))
+
+owned : (c : tie.After-set-word2) → Left (start c) (c .set-word2 .last .0) (withOwner (start c))
+owned c =
+    let w = start c in
+    let lock = c .before .before .before .before .set-word .ensures in
+    stored-owner (stored-lock (stored-start (w .pre .0)) (w .args .lock) (lock .0) (lock .1)) (w .args .owner) (c .set-word2 .ensures .0)
+    (c .set-word2 .ensures .1)
+
+mapped : (c : tie.After-set-entry) → Left (start (owner-set c)) (c .set-entry .last .0) (withMap (start (owner-set c)))
 mapped c =
-    let w = c .before .before .before .before .before .before .before .before .before .before .before .before .before in
-    let r = owned (c .before .before .before .before) in
-    stored-entry r (mapAt (w .args .z .t)) 1 (w .args .z .n) _ (w .args .map) (mapOnly (w .args .map)) (c .before .before .before .before .before .before .before .before .before .before .before .map-at .ensures)
+    let w = start (owner-set c) in
+    let r = owned (owner-set c) in
+    stored-entry r (mapAt (w .args .z .t)) 1 (w .args .z .n) _ (w .args .map) (mapOnly (w .args .map)) (begins (owner-set c) .before .map-at .ensures)
     (c .set-entry .ensures .0) (c .set-entry .ensures .1) (w .pre .1) (map-inside (r .live))
     (decode-map (r .live) (w .args .map) (w .pre .1) (c .set-entry .ensures .1))
 
 set-entry-requires : tie.Need-set-entry-requires
 set-entry-requires c κs =
-    let w = c .before .before .before .before .before .before .before .before .before .before .before .before in
-    let r = owned (c .before .before .before) in
-    entry-within (r .live) (mapAt (w .args .z .t)) 1 (w .args .z .n) _ (w .args .map) (c .before .before .before .before .before .before .before .before .before .before .map-at .ensures) (w .pre .1)
-    (map-inside (r .live))
+    let o = c .before .before .before in
+    let w = start o in
+    let live = owned o .live in
+    entry-within live (mapAt (w .args .z .t)) 1 (w .args .z .n) _ (w .args .map) (begins o .before .map-at .ensures) (w .pre .1)
+    (map-inside live)
 
 set-entry-requires-2 : tie.Need-set-entry-requires-2
 set-entry-requires-2 c κs =
-    let w = c .before .before .before .before .before .before .before .before .before .before .before .before .before .before .before .before in
-    let r = mapped (c .before .before .before) in
-    entry-within (r .live) (locksAt (w .args .z .t) (w .args .z .n)) 1 (w .args .z .n) _ (w .args .locks) (c .before .before .before .before .before .before .before .before .before .before .before .before .before .locks-at .ensures)
-    (w .pre .2) (locks-inside (r .live))
+    let m = c .before .before .before in
+    let w = start (owner-set m) in
+    let live = mapped m .live in
+    entry-within live (locksAt (w .args .z .t) (w .args .z .n)) 1 (w .args .z .n) _ (w .args .locks) (begins (owner-set m) .locks-at .ensures)
+    (w .pre .2) (locks-inside live)
 
 returns : tie.Need-returns
 returns c =
-    let w = c .before .before .before .before .before .before .before .before .before .before .before .before .before .before .before .before .before .before .before in
-    let r = mapped (c .before .before .before .before .before .before) in
+    let set = c .before .before in
+    let m = set .before .before .before .before in
+    let w = start (owner-set m) in
+    let r = mapped m in
     stored-entry r (locksAt (w .args .z .t) (w .args .z .n)) 1 (w .args .z .n) _ (w .args .locks) (locksOnly (w .args .locks))
-    (c .before .before .before .before .before .before .before .before .before .before .before .before .before .before .before .before .locks-at .ensures) (c .before .before .set-entry2 .ensures .0) (c .before .before .set-entry2 .ensures .1) (w .pre .2) (locks-inside (r .live))
-    (decode-locks (r .live) (w .args .locks) (w .pre .2) (c .before .before .set-entry2 .ensures .1))
+    (begins (owner-set m) .locks-at .ensures) (set .set-entry2 .ensures .0) (set .set-entry2 .ensures .1) (w .pre .2) (locks-inside (r .live))
+    (decode-locks (r .live) (w .args .locks) (w .pre .2) (set .set-entry2 .ensures .1))
 
 pub settle-numbers-spec : {M : Type 1} → statement M
 settle-numbers-spec =

@@ -53,91 +53,104 @@ best-below eligible beats (suc n) room h p =
     kept true Nobody q = omega arith
     kept true (At m) q = picked (beats n m) m q
 
+-- which blocks are in question in the search for "to" and for "from", and which of two beats the other
+abbrev unused : (ℕ → ℕ) → ℕ → Bool
+unused header m = free (header m)
+
+abbrev used : (ℕ → ℕ) → ℕ → Bool
+used header m = not (free (header m))
+
+abbrev moreWorn : (ℕ → ℕ) → ℕ → ℕ → Bool
+moreWorn wear k m = ltb (wear m) (wear k)
+
+abbrev lessWorn : (ℕ → ℕ) → ℕ → ℕ → Bool
+lessWorn wear k m = ltb (wear k) (wear m)
+
 -- what a search finds is below the bound on blocks
 pub to-below : (header wear : ℕ → ℕ) (n : ℕ) {f : Found} → f ≡ toBlock header wear n → n ≤ mostBlocks → placeOf f < mostBlocks
-to-below header wear n e h = rw e (best-below (λ k. free (header k)) (λ k m. ltb (wear m) (wear k)) n mostBlocks h (omega arith))
+to-below header wear n e h = rw e (best-below (unused header) (moreWorn wear) n mostBlocks h (omega arith))
 
 pub from-below : (header wear : ℕ → ℕ) (n : ℕ) {f : Found} → f ≡ leastWorn header wear n → n ≤ mostBlocks → placeOf f < mostBlocks
-from-below header wear n e h = rw e (best-below (λ k. not (free (header k))) (λ k m. ltb (wear k) (wear m)) n mostBlocks h (omega arith))
+from-below header wear n e h = rw e (best-below (used header) (lessWorn wear) n mostBlocks h (omega arith))
 
 -- ---- a search that keeps a mark of the best
 
 -- what a loop has found of the blocks passed: nobody, and the mark is unset, or a block, and the mark is its
-pub data Held (mark : ℕ → ℕ) (unset : ℕ) : Found → ℕ → ℕ → Type 0 where
-  nobody : (at : ℕ) → Held mark unset Nobody at unset
-  somebody : (m : ℕ) → (mark m ≡ unset → ⊥) → Held mark unset (At m) m (mark m)
+pub data Marked (mark : ℕ → ℕ) (unset : ℕ) : Found → ℕ → ℕ → Type 0 where
+  nobody : (at : ℕ) → Marked mark unset Nobody at unset
+  somebody : (m : ℕ) → (mark m ≡ unset → ⊥) → Marked mark unset (At m) m (mark m)
 
 -- what is found in the end
-pub held-nobody : {mark : ℕ → ℕ} {unset : ℕ} {f : Found} {at bar : ℕ} → Held mark unset f at bar → bar ≡ unset → Nobody ≡ f
-held-nobody (nobody at) e = refl
-held-nobody (somebody m h) e = absurd (h e)
+pub marked-nobody : {mark : ℕ → ℕ} {unset : ℕ} {f : Found} {at bar : ℕ} → Marked mark unset f at bar → bar ≡ unset → Nobody ≡ f
+marked-nobody (nobody at) e = refl
+marked-nobody (somebody m h) e = absurd (h e)
 
-pub held-somebody : {mark : ℕ → ℕ} {unset : ℕ} {f : Found} {at bar : ℕ} → Held mark unset f at bar → (bar ≡ unset → ⊥) → At at ≡ f
-held-somebody (nobody at) e = absurd (e refl)
-held-somebody (somebody m h) e = refl
+pub marked-somebody : {mark : ℕ → ℕ} {unset : ℕ} {f : Found} {at bar : ℕ} → Marked mark unset f at bar → (bar ≡ unset → ⊥) → At at ≡ f
+marked-somebody (nobody at) e = absurd (e refl)
+marked-somebody (somebody m h) e = refl
 
 -- one block more: it is not in question, or beats what was found, or does not
-module _ (eligible : ℕ → Bool) (beats : ℕ → ℕ → Bool) {mark : ℕ → ℕ} {unset k at bar : ℕ} (h : Held mark unset (best eligible beats k) at bar) where
-  pub held-passes : eligible k ≡ false → Held mark unset (best eligible beats (k + 1)) at bar
-  held-passes e = rw (add-one, e) h
+module _ (eligible : ℕ → Bool) (beats : ℕ → ℕ → Bool) {mark : ℕ → ℕ} {unset k at bar : ℕ} (h : Marked mark unset (best eligible beats k) at bar) where
+  pub marked-passes : eligible k ≡ false → Marked mark unset (best eligible beats (k + 1)) at bar
+  marked-passes e = rw (add-one, e) h
 
-  pub held-takes :
+  pub marked-takes :
       eligible k ≡ true → (mark k ≡ unset → ⊥) → ((m : ℕ) → bar ≡ mark m → beats k m ≡ true) →
-      Held mark unset (best eligible beats (k + 1)) k (mark k)
-  held-takes e u w = rw (add-one, e) (taken h w)
+      Marked mark unset (best eligible beats (k + 1)) k (mark k)
+  marked-takes e u w = rw (add-one, e) (taken h w)
     where
       taken :
-          {f : Found} {at bar : ℕ} → Held mark unset f at bar → ((m : ℕ) → bar ≡ mark m → beats k m ≡ true) →
-          Held mark unset (challenge true beats k f) k (mark k)
+          {f : Found} {at bar : ℕ} → Marked mark unset f at bar → ((m : ℕ) → bar ≡ mark m → beats k m ≡ true) →
+          Marked mark unset (challenge true beats k f) k (mark k)
       taken (nobody at) w = somebody k u
       taken (somebody m i) w = rw (w m refl) (somebody k u)
 
-  pub held-stays :
+  pub marked-stays :
       eligible k ≡ true → (bar ≡ unset → ⊥) → ((m : ℕ) → bar ≡ mark m → beats k m ≡ false) →
-      Held mark unset (best eligible beats (k + 1)) at bar
-  held-stays e u w = rw (add-one, e) (stayed h u w)
+      Marked mark unset (best eligible beats (k + 1)) at bar
+  marked-stays e u w = rw (add-one, e) (stayed h u w)
     where
       stayed :
-          {f : Found} {at bar : ℕ} → Held mark unset f at bar → (bar ≡ unset → ⊥) → ((m : ℕ) → bar ≡ mark m → beats k m ≡ false) →
-          Held mark unset (challenge true beats k f) at bar
+          {f : Found} {at bar : ℕ} → Marked mark unset f at bar → (bar ≡ unset → ⊥) → ((m : ℕ) → bar ≡ mark m → beats k m ≡ false) →
+          Marked mark unset (challenge true beats k f) at bar
       stayed (nobody at) u w = absurd (u refl)
       stayed (somebody m i) u w = rw (w m refl) (somebody m i)
 
 -- "to", marked by one more than its wear
-abbrev pub ToHeld : (ℕ → ℕ) → (ℕ → ℕ) → ℕ → ℕ → ℕ → Type 0
-ToHeld header wear k at bar = Held (λ m. wear m + 1) 0 (toBlock header wear k) at bar
+abbrev pub ToMarked : (ℕ → ℕ) → (ℕ → ℕ) → ℕ → ℕ → ℕ → Type 0
+ToMarked header wear k at bar = Marked (λ m. wear m + 1) 0 (toBlock header wear k) at bar
 
 -- "from", marked by its wear, and by more than any word where there is none
-abbrev pub FromHeld : (ℕ → ℕ) → (ℕ → ℕ) → ℕ → ℕ → ℕ → Type 0
-FromHeld header wear k at least = Held wear (mostWord + 1) (leastWorn header wear k) at least
+abbrev pub FromMarked : (ℕ → ℕ) → (ℕ → ℕ) → ℕ → ℕ → ℕ → Type 0
+FromMarked header wear k at least = Marked wear (mostWord + 1) (leastWorn header wear k) at least
 
 module _ (header wear : ℕ → ℕ) (k : ℕ) {at mark : ℕ} where
-  pub to-passes : ToHeld header wear k at mark → (header k ≡ 0 → ⊥) → ToHeld header wear (k + 1) at mark
-  to-passes h e = held-passes (λ m. free (header m)) (λ x m. ltb (wear m) (wear x)) h (ne-eqb (header k) 0 e)
+  pub to-passes : ToMarked header wear k at mark → (header k ≡ 0 → ⊥) → ToMarked header wear (k + 1) at mark
+  to-passes h e = marked-passes (unused header) (moreWorn wear) h (ne-eqb (header k) 0 e)
 
-  pub to-takes : ToHeld header wear k at mark → header k ≡ 0 → mark ≤ wear k → ToHeld header wear (k + 1) k (wear k + 1)
+  pub to-takes : ToMarked header wear k at mark → header k ≡ 0 → mark ≤ wear k → ToMarked header wear (k + 1) k (wear k + 1)
   to-takes h e l =
-      held-takes (λ m. free (header m)) (λ x m. ltb (wear m) (wear x)) h (eq-eqb (header k) 0 e) (λ q. omega arith)
+      marked-takes (unused header) (moreWorn wear) h (eq-eqb (header k) 0 e) (λ q. omega arith)
       (λ m q. lt-ltb (wear m) (wear k) (omega arith))
 
-  pub to-stays : ToHeld header wear k at mark → header k ≡ 0 → wear k < mark → ToHeld header wear (k + 1) at mark
+  pub to-stays : ToMarked header wear k at mark → header k ≡ 0 → wear k < mark → ToMarked header wear (k + 1) at mark
   to-stays h e l =
-      held-stays (λ m. free (header m)) (λ x m. ltb (wear m) (wear x)) h (eq-eqb (header k) 0 e) (λ q. omega arith)
+      marked-stays (unused header) (moreWorn wear) h (eq-eqb (header k) 0 e) (λ q. omega arith)
       (λ m q. le-ltb (wear m) (wear k) (omega arith))
 
-  pub from-passes : FromHeld header wear k at mark → header k ≡ 0 → FromHeld header wear (k + 1) at mark
-  from-passes h e = held-passes (λ m. not (free (header m))) (λ x m. ltb (wear x) (wear m)) h (ap not (eq-eqb (header k) 0 e))
+  pub from-passes : FromMarked header wear k at mark → header k ≡ 0 → FromMarked header wear (k + 1) at mark
+  from-passes h e = marked-passes (used header) (lessWorn wear) h (ap not (eq-eqb (header k) 0 e))
 
   pub from-takes :
-      FromHeld header wear k at mark → (header k ≡ 0 → ⊥) → wear k ≤ mostWord → wear k < mark → FromHeld header wear (k + 1) k (wear k)
+      FromMarked header wear k at mark → (header k ≡ 0 → ⊥) → wear k ≤ mostWord → wear k < mark → FromMarked header wear (k + 1) k (wear k)
   from-takes h e f l =
-      held-takes (λ m. not (free (header m))) (λ x m. ltb (wear x) (wear m)) h (ap not (ne-eqb (header k) 0 e)) (λ q. omega arith)
+      marked-takes (used header) (lessWorn wear) h (ap not (ne-eqb (header k) 0 e)) (λ q. omega arith)
       (λ m q. lt-ltb (wear k) (wear m) (omega arith))
 
   pub from-stays :
-      FromHeld header wear k at mark → (header k ≡ 0 → ⊥) → wear k ≤ mostWord → mark ≤ wear k → FromHeld header wear (k + 1) at mark
+      FromMarked header wear k at mark → (header k ≡ 0 → ⊥) → wear k ≤ mostWord → mark ≤ wear k → FromMarked header wear (k + 1) at mark
   from-stays h e f l =
-      held-stays (λ m. not (free (header m))) (λ x m. ltb (wear x) (wear m)) h (ap not (ne-eqb (header k) 0 e)) (λ q. omega arith)
+      marked-stays (used header) (lessWorn wear) h (ap not (ne-eqb (header k) 0 e)) (λ q. omega arith)
       (λ m q. le-ltb (wear k) (wear m) (omega arith))
 
 -- ---- from and to

@@ -6,12 +6,12 @@ use Prim.Native.Nat.{_-_, _≤_}
 use native.Mathlib.Omega.{arith}
 use borrow.Author.Needs.{needs}
 use Rattle.store.specs.Live.{table}
-use Rattle.machine.proofs.Search.{nobody, held-nobody, held-somebody, ToHeld, to-passes, to-takes, to-stays}
+use Rattle.machine.proofs.Search.{nobody, marked-nobody, marked-somebody, ToMarked, to-passes, to-takes, to-stays}
 use Rattle.machine.proofs.to_block.Statement.{statement}
 use Rattle.machine.proofs.to_block.Tie as tie
 
 abbrev Inv-loop : tie.InvT-loop
-Inv-loop header wear blocks at₀ bar₀ k₀ at bar k = (k ≤ blocks) × ToHeld (table header) (table wear) k at bar
+Inv-loop header wear blocks at₀ bar₀ k₀ at bar k = (k ≤ blocks) × ToMarked (table header) (table wear) k at bar
 
 abbrev μ-loop : tie.MeasureT-loop
 μ-loop header wear blocks at₀ bar₀ k₀ at bar k = blocks - k
@@ -33,12 +33,12 @@ loop-again c =
 returns : tie.Need-returns Inv-loop μ-loop
 returns c =
     let k : c .before .before .loop .k ≡ c .before .before .before .args .blocks = omega (arith, c .before .before .loop .inv .0) in
-    rw (← k) (held-nobody (c .before .before .loop .inv .1) (c .if3 .taken))
+    rw (← k) (marked-nobody (c .before .before .loop .inv .1) (c .if3 .taken))
 
 returns-2 : tie.Need-returns-2 Inv-loop μ-loop
 returns-2 c =
     let k : c .before .before .loop .k ≡ c .before .before .before .args .blocks = omega (arith, c .before .before .loop .inv .0) in
-    rw (← k) (held-somebody (c .before .before .loop .inv .1) (c .if3 .left))
+    rw (← k) (marked-somebody (c .before .before .loop .inv .1) (c .if3 .left))
 
 pub to-block-spec : {M : Type 1} → statement M
 to-block-spec =

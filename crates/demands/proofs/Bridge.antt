@@ -12,7 +12,7 @@ use Rattle.meaning.specs.Store.{Store}
 use Rattle.meaning.specs.Call.{Reply, Outcome, refused, left, reply, Entry, begin, step, calling, callStore}
 use Rattle.meaning.specs.Schedule.{Words, run, replies, Grown as GrownStore, formatted, called, order, begunBy, finishedBy, placing, starting, finishing, Operation, Answered, operation, emit, takesLast}
 use Rattle.meaning.proofs.Invariant.{Inv}
-use Rattle.meaning.proofs.Demand1.{inv-fresh, inv-grown}
+use Rattle.meaning.proofs.Progress.{inv-fresh, inv-grown}
 use Rattle.store.specs.Area.{encode, decode}
 use Rattle.store.specs.Calls.{callArea, Grown}
 use Rattle.store.proofs.Sound.{Sound}

@@ -3,7 +3,7 @@
 --    reads, writes and unmaps have finished with, in order, and then at most the answer of its open operation.
 --  * area-linearizable: the schedule is linearizable as Herlihy and Wing (1990) define it: what each thread asks and is answered is what
 --    that order says, and what has finished before another operation is begun stands before it (`real-time`).
---    How their definition is met field by field is said at the head of the crate meaning's proofs/Linearizable.
+--    How their definition is met field by field is said at the head of the crate meaning's proofs/Manager/Linearizable.
 --  * area-real-time: that last part by itself. Request i of thread u has finished within v, request i′ of thread u′ has not begun there.
 --  * area-in-real-time: the same of all operations, levellings too.
 --  * area-read-gives: a read that has finished gave the word of the last write of its number before it in that order, and 0 if an
@@ -25,9 +25,10 @@ use Rattle.meaning.specs.Call.{Entry, callStore, isIdle}
 use Rattle.meaning.specs.Manager.{initial, ebmRead}
 use Rattle.meaning.specs.Schedule.{Operation, Answered, run, order, begunBy, finishedBy, obeyAll, managed, ofManager}
 use Rattle.meaning.specs.Demands.{isMapped, kept, leavesAlone, pending, Owed, requestOf, requests, place, Gives, ManagerAnswers, Linearizes, InRealTime}
-use Rattle.meaning.proofs.ManagerView.{keeps, asked}
-use Rattle.meaning.proofs.ManagerAnswers.{manager-answers, manager-keeps, manager-keeps-rest}
-use Rattle.meaning.proofs.Linearizable.{linearizable, in-real-time, reads-give, read-finished, one-block-each}
+use Rattle.meaning.proofs.Manager.{manager-answers, linearizable}
+use Rattle.meaning.proofs.Manager.View.{keeps, asked}
+use Rattle.meaning.proofs.Manager.Answers.{manager-keeps, manager-keeps-rest}
+use Rattle.meaning.proofs.Manager.Linearizable.{in-real-time, reads-give, read-finished, one-block-each}
 use Rattle.store.specs.Area.{decode}
 use Rattle.store.specs.Calls.{callArea, Formatted, Grown}
 use Rattle.store.proofs.Range.{formatted-good, formatted-fresh}

@@ -16,7 +16,7 @@ use Rattle.meaning.specs.Call.{Entry, callStore, isIdle}
 use Rattle.meaning.specs.Schedule.{Answered, run, order, finishedBy, serial}
 use Rattle.meaning.specs.Demands.{ofThread, ops, answeredOps, pending, placedOp, Owed, EachOnce, one-by-one, OneAtATime, AnswersSoFar}
 use Rattle.meaning.proofs.OneAtATime.{one-at-a-time, answers-so-far}
-use Rattle.meaning.proofs.EachOnce.{each-once}
+use Rattle.meaning.proofs.OneAtATime.EachOnce.{each-once}
 use Rattle.store.specs.Area.{decode}
 use Rattle.store.specs.Calls.{callArea, Formatted}
 use Rattle.store.proofs.Range.{Good, decode-injective, formatted-good, formatted-fresh}

@@ -16,10 +16,10 @@ use Rattle.meaning.specs.Limits.{mostWord, within}
 use Rattle.meaning.specs.Store.{Store}
 use Rattle.meaning.specs.Programs.{actAt}
 use Rattle.meaning.specs.Call.{step, callStore}
-use Rattle.meaning.proofs.Words.{either-way, and-left, and-right, or-way, within-true, clash}
+use Rattle.meaning.proofs.Base.Words.{either-way, and-left, and-right, or-way, within-true, clash}
 use Rattle.meaning.proofs.Invariant.{takesH, takesN, takesLock}
-use Rattle.meaning.proofs.Keeping.{standing}
-use Rattle.meaning.proofs.Demand1.{CanStep as CanStepStore}
+use Rattle.meaning.proofs.Invariant.Keeping.{standing}
+use Rattle.meaning.proofs.Progress.{CanStep as CanStepStore}
 use Rattle.meaning.proofs.EitherOrder.{sameTake, either-order}
 use Rattle.store.specs.Area.{decode}
 use Rattle.store.specs.Calls.{stepArea, Grown}

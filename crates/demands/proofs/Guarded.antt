@@ -13,7 +13,7 @@ use Rattle.meaning.specs.Holding.{free}
 use Rattle.meaning.specs.Call.{Entry}
 use Rattle.meaning.specs.Schedule.{Words}
 use Rattle.meaning.specs.Guarding.{between, HeadersAgree, WearUnderH}
-use Rattle.meaning.proofs.Guarded.{headers-agree, headers-agree-between, wear-under-H}
+use Rattle.meaning.proofs.Progress.Guarded.{headers-agree, headers-agree-between, wear-under-H}
 use Rattle.store.specs.Area.{decode}
 use Rattle.store.specs.Calls.{callArea, Grown}
 use Rattle.demands.proofs.Bridge.{after-call, grown-good, grown-inv}

@@ -17,7 +17,7 @@ use Rattle.meaning.specs.Store.{Store, idle, fresh}
 use Rattle.meaning.specs.Programs.{WRITE, LEVEL}
 use Rattle.meaning.specs.Call.{Entry, begin, step, callStore, storedN, storedC}
 use Rattle.meaning.specs.Schedule.{Operation, operation, emit, takesLast, replies, order, steps, longest, whole, serial}
-use Rattle.meaning.proofs.Words.{either-way}
+use Rattle.meaning.proofs.Base.Words.{either-way}
 use Rattle.store.specs.Area.{decode}
 use Rattle.store.specs.Calls.{callArea, Formatted}
 use Rattle.store.proofs.Sound.{SoundThread}

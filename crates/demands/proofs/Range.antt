@@ -30,12 +30,12 @@ use Rattle.meaning.specs.Choosing.{lowestFree, best, toBlock, leastWorn, fromBl
 use Rattle.meaning.specs.Step.{block, nothing, worn, touches, heads, choosing, perform, verdict, become, put, apply}
 use Rattle.meaning.specs.Call.{Outcome, refused, left, isIdle, storedN, storedC, begun, told, Entry, begin, step, calling}
 use Rattle.meaning.specs.Schedule.{Words}
-use Rattle.meaning.proofs.Words.{clash, and-left, and-right, within-true, either-way, upd-each, named-below}
+use Rattle.meaning.proofs.Base.Words.{clash, and-left, and-right, within-true, either-way, upd-each, named-below}
 use Rattle.meaning.proofs.Invariant.{Changes, Puts, Stands}
-use Rattle.meaning.proofs.Keeping.{everyLine, everywhere}
-use Rattle.meaning.proofs.Called.{by-begin, by-step}
+use Rattle.meaning.proofs.Invariant.Keeping.{everyLine, everywhere}
+use Rattle.meaning.proofs.Base.Schedules.{by-begin, by-step}
 use Rattle.meaning.proofs.Lines.{_▸_, from-at}
-use Rattle.meaning.proofs.Blocks.{finds, lacks, Best, best-finds}
+use Rattle.meaning.proofs.Base.Searches.{finds, lacks, Best, best-finds}
 use Rattle.store.specs.Area.{word}
 use Rattle.store.proofs.Sound.{Working, SoundThread}
 use Rattle.store.proofs.Range.{Cell, Seat, Ranged}

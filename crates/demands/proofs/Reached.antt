@@ -19,7 +19,7 @@ use Rattle.meaning.specs.Numbers.{WENT, FAULT}
 use Rattle.meaning.specs.Limits.{mostWord}
 use Rattle.meaning.specs.Call.{Entry, begin, step}
 use Rattle.meaning.specs.Schedule.{formatted}
-use Rattle.meaning.proofs.Words.{and-left, and-right}
+use Rattle.meaning.proofs.Base.Words.{and-left, and-right}
 use Rattle.store.specs.Layout.{size}
 use Rattle.store.specs.Area.{Bytes, wellFormed}
 use Rattle.store.specs.Calls.{format, Grown}

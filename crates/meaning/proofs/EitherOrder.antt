@@ -26,13 +26,13 @@ use Rattle.meaning.specs.Holding.{free, by, heldBy}
 use Rattle.meaning.specs.Programs.{actAt}
 use Rattle.meaning.specs.Step.{block, setC, nothing, next, need, touches, perform, verdict, become, put, apply}
 use Rattle.meaning.specs.Call.{Reply, step, callStore, told, reply, isIdle}
-use Rattle.meaning.proofs.Words.{either-way, by-held, clash, and-left, and-right, or-way, by-other, held-once, held-not-free, upd-same, upd-other, upd-each}
-use Rattle.meaning.proofs.Called.{by-step}
+use Rattle.meaning.proofs.Base.Words.{either-way, by-held, clash, and-left, and-right, or-way, by-other, held-once, held-not-free, upd-same, upd-other, upd-each}
+use Rattle.meaning.proofs.Base.Schedules.{by-step}
 use Rattle.meaning.proofs.Invariant.{takesH, takesN, takesLock, holdsH, ownsHeaders, ownsP, Passes, takes, gives, Changes, Puts, Guards, GuardsMap, GuardsHeader, GuardsContent, GuardsWear, Inv}
-use Rattle.meaning.proofs.Keeping.{reads-map, everyLine, everywhere, standing, p-owned, Moves, moves-inv, word-kept, entry-kept, map-kept, header-kept, wear-kept, content-kept}
+use Rattle.meaning.proofs.Invariant.Keeping.{reads-map, everyLine, everywhere, standing, p-owned, Moves, moves-inv, word-kept, entry-kept, map-kept, header-kept, wear-kept, content-kept}
 use Rattle.meaning.proofs.Lines.{Fine}
-use Rattle.meaning.proofs.EveryLine.{fine}
-use Rattle.meaning.proofs.Demand1.{no-fault, CanStep}
+use Rattle.meaning.proofs.Lines.EveryLine.{fine}
+use Rattle.meaning.proofs.Progress.{no-fault, CanStep}
 
 -- ---- what is said
 

@@ -1,4 +1,4 @@
--- Who may touch what when: the invariant of the machine, `Inv`. Each store grown from fresh satisfies it (Demand1).
+-- Who may touch what when: the invariant of the machine, `Inv`. Each store grown from fresh satisfies it (Progress).
 --
 -- THE TABLE says of a thread, from its operation and line alone, what it holds, owns, is about to take and knows. A range is of lines at
 -- which the thread stands: that line is its next. Lay it beside 01, "The lines": a range opens after the line that takes, owns, looks
@@ -19,7 +19,12 @@
 -- MAP AND HEADERS: the map points to blocks whose header points back, at all times (`Agrees`); a header points to a number that is
 -- mapped to its block, unless that block is astray (`mapped`). They agree when nobody owns the headers.
 --
--- Definitions only. Assumes nothing.
+-- Definitions only; the files of the room use them:
+--  * Keeping: a step of one thread keeps what the others hold and know, and so the invariant.
+--  * Sharing: what the invariant says of who shares what.
+-- Assumes nothing.
+pub mod Keeping
+pub mod Sharing
 use mathlib.Core.Path.{_≡_}
 use mathlib.Core.Bool.{Bool, true, false, _&&_, _||_}
 use mathlib.Core.List.{List, [], _∷_, _++_}

@@ -1,6 +1,13 @@
 -- What a line must show, `Fine`, and the laws that the lines' proofs share: what a line that takes, owns, releases or lets go has next,
--- and what becomes of map and headers where a line writes there.
+-- and what becomes of map and headers where a line writes there. The files of the room use it:
+--  * Write, Read, Unmap, Level: the lines of each operation, a proof each, by their labels.
+--  * EveryLine: all of them, and every begin, put together (`fine`, `begins`).
 -- Assumes nothing.
+pub mod Write
+pub mod Read
+pub mod Unmap
+pub mod Level
+pub mod EveryLine
 use mathlib.Core.Path.{_≡_, refl, sym, ap, _∙_, subst}
 use mathlib.Core.Bool.{Bool, true, false, not, _||_}
 use mathlib.Core.List.{[], _∷_}
@@ -20,10 +27,10 @@ use Rattle.meaning.specs.Programs.{actAt}
 use Rattle.meaning.specs.Step.{perform, apply}
 use Rattle.meaning.specs.Schedule.{emit, ofManager}
 use Rattle.meaning.specs.Demands.{kept}
-use Rattle.meaning.proofs.Words.{same, either-way, clash, by-held, none-held, naming-once, naming-not-none, naming-not-free, naming-named, named-naming, named-below, upd-each}
+use Rattle.meaning.proofs.Base.Words.{same, either-way, clash, by-held, none-held, naming-once, naming-not-none, naming-not-free, naming-named, named-naming, named-below, upd-each}
 use Rattle.meaning.proofs.Invariant.{takes, gives, holdsH, holdsN, ownsP, ownsQ, Holds, Facts, Agrees, Back, Inv}
-use Rattle.meaning.proofs.ManagerView.{keeps, places, answered, due}
-use Rattle.meaning.proofs.Keeping.{p-owned, q-owned, Moves}
+use Rattle.meaning.proofs.Manager.View.{keeps, places, answered, due}
+use Rattle.meaning.proofs.Invariant.Keeping.{p-owned, q-owned, Moves}
 
 infixr 30 _▸_
 -- ---- what a line must show

@@ -10,7 +10,7 @@ use borrow.Author.Tests.{eqb-true, eqb-false, lt-ltb, le-ltb}
 use Rattle.meaning.specs.declared.Found.the-variants.{Nobody, At}
 use Rattle.meaning.specs.Holding.{free, naming, named}
 use Rattle.meaning.specs.Choosing.{lowestFree, best}
-use Rattle.meaning.proofs.Words.{either-way, naming-named, named-below}
+use Rattle.meaning.proofs.Base.Words.{either-way, naming-named, named-below}
 
 -- ---- pigeons
 

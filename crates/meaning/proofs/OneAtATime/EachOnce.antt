@@ -21,18 +21,17 @@ use Rattle.meaning.specs.Step.{nothing, apply}
 use Rattle.meaning.specs.Call.{Entry, begin, step, callStore, isIdle, begun, storedN, storedC, reply}
 use Rattle.meaning.specs.Schedule.{Operation, Answered, operation, emit, takesLast, placed, run, placing, starting, finishing, order, begunBy, finishedBy}
 use Rattle.meaning.specs.Demands.{byThread, ofThread, ops, answeredOps, pending, placedOp, EachOnce}
-use Rattle.meaning.proofs.Words.{same, either-way, and-left, and-right, or-way, within-true, upd-same, upd-other}
-use Rattle.meaning.proofs.Called.{by-begin, refused-not}
+use Rattle.meaning.proofs.Base.Words.{same, either-way, and-left, and-right, or-way, within-true, upd-same, upd-other}
 use Rattle.meaning.proofs.Invariant.{Inv}
 use Rattle.meaning.proofs.Lines.{_▸_, from-at}
-use Rattle.meaning.proofs.EveryLine.{idle-is, open-line, begins}
-use Rattle.meaning.proofs.Demand1.{inv-fresh, inv-call}
+use Rattle.meaning.proofs.Lines.EveryLine.{idle-is, open-line, begins}
+use Rattle.meaning.proofs.Progress.{inv-fresh, inv-call}
 use Rattle.meaning.proofs.EitherOrder.{Going, left-by, can-going, going-reply, going-moves}
-use Rattle.meaning.proofs.Places.{Went, went, over, Came, going-came, first-unplaced, last-unplaced, placed-kept}
-use Rattle.meaning.proofs.Settles.{stepped, stepped-is}
-use Rattle.meaning.proofs.LastLock.{work}
-use Rattle.meaning.proofs.Requests.{those-append}
-use Rattle.meaning.proofs.Schedules.{step-stays, refused-number, placing-append, starting-append, finishing-append}
+use Rattle.meaning.proofs.OneAtATime.Places.{Went, went, over, Came, going-came, first-unplaced, last-unplaced, placed-kept}
+use Rattle.meaning.proofs.OneAtATime.Settles.{stepped, stepped-is}
+use Rattle.meaning.proofs.OneAtATime.LastLock.{work}
+use Rattle.meaning.proofs.Base.Requests.{those-append}
+use Rattle.meaning.proofs.Base.Schedules.{by-begin, refused-not, step-stays, refused-number, placing-append, starting-append, finishing-append}
 
 -- ---- a step that takes a last lock takes a lock
 

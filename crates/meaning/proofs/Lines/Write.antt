@@ -11,8 +11,8 @@ use Rattle.meaning.specs.Holding.{free, naming}
 use Rattle.meaning.specs.Choosing.{lowestFree}
 use Rattle.meaning.specs.Programs.{WRITE}
 use Rattle.meaning.specs.Step.{onContent, apply}
-use Rattle.meaning.proofs.Words.{either-way, same, free-none, naming-not-free, naming-not-none, upd-same}
-use Rattle.meaning.proofs.Sharing.{owner-free, mapped-block-free, free-block-free, numbers-blocks, lowest-free, content-guarded}
+use Rattle.meaning.proofs.Base.Words.{either-way, same, free-none, naming-not-free, naming-not-none, upd-same}
+use Rattle.meaning.proofs.Invariant.Sharing.{owner-free, mapped-block-free, free-block-free, numbers-blocks, lowest-free, content-guarded}
 use Rattle.meaning.proofs.Lines.{kept-on, keeps-on, at, for-H, for-N, Line, From, _▸_, n-held, p-held, mapped-headed, headed-agrees, moved-agrees, moved-mapped, looked-up, facts-idle, keeping}
 
 module _ (s : Store) (t : ℕ) where

@@ -13,10 +13,10 @@ use Rattle.meaning.specs.Limits.{least, mostThreads, mostNumbers, mostBl
 use Rattle.meaning.specs.Store.{Store}
 use Rattle.meaning.specs.Holding.{none, free, heldBy, naming}
 use Rattle.meaning.specs.Choosing.{lowestFree, toBlock, leastWorn, fromBlock}
-use Rattle.meaning.proofs.Words.{same, either-way, clash, and-left, and-right, or-way, within-true, free-held, held-once, alone-free, free-none, naming-once, naming-not-none}
+use Rattle.meaning.proofs.Base.Words.{same, either-way, clash, and-left, and-right, or-way, within-true, free-held, held-once, alone-free, free-none, naming-once, naming-not-none}
 use Rattle.meaning.proofs.Invariant.{holdsH, holdsN, ownsHeaders, ownsP, ownsQ, n-on-p, n-on-q, p-free, q-free, p-headed, q-headed, p-astray, q-astray, If, leadsAstray, GuardsContent, Back, Astray, Inv}
-use Rattle.meaning.proofs.Keeping.{up}
-use Rattle.meaning.proofs.Blocks.{crowded, finds, lacks, Lowest, lowest-finds, Best, best-finds}
+use Rattle.meaning.proofs.Invariant.Keeping.{up}
+use Rattle.meaning.proofs.Base.Searches.{crowded, finds, lacks, Lowest, lowest-finds, Best, best-finds}
 
 -- there are more blocks than numbers, and some number
 pub limits-sizes : (t n p d : ℕ) → inLimits t n p d ≡ true → (n < p) × (0 < n)

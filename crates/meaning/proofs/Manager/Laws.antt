@@ -8,8 +8,8 @@ use lib.Dec.{eqb}
 use Rattle.meaning.specs.Programs.{WRITE, READ, LEVEL}
 use Rattle.meaning.specs.Manager.{Manager, ebmRead}
 use Rattle.meaning.specs.Schedule.{Operation, operation, emit, obey, obeyAll, managed}
-use Rattle.meaning.proofs.Words.{either-way}
-use Rattle.meaning.proofs.ManagerView.{asked, leaves}
+use Rattle.meaning.proofs.Base.Words.{either-way}
+use Rattle.meaning.proofs.Manager.View.{asked, leaves}
 
 -- an operation changes its own number, and no other
 pub obey-asked : (o : Operation) (m : Manager) (k : ℕ) →

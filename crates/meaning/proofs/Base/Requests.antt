@@ -11,7 +11,7 @@ use Rattle.meaning.specs.Programs.{LEVEL}
 use Rattle.meaning.specs.Manager.{Manager}
 use Rattle.meaning.specs.Schedule.{Operation, emit, obey, managed}
 use Rattle.meaning.specs.Demands.{those, ofThread, requestOf, requests, placeFrom, place}
-use Rattle.meaning.proofs.Words.{either-way}
+use Rattle.meaning.proofs.Base.Words.{either-way}
 
 pub those-append : (test : Operation → Bool) (l l′ : List Operation) → those test (l ++ l′) ≡ those test l ++ those test l′
 those-append test [] l′ = refl

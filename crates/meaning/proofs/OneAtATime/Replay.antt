@@ -24,12 +24,12 @@ use Rattle.meaning.specs.Programs.{WRITE, READ, UNMAP, LEVEL, actAt, las
 use Rattle.meaning.specs.Step.{perform, become}
 use Rattle.meaning.specs.Call.{Reply, Entry, begin, step, callStore, isIdle, begun, storedN, storedC}
 use Rattle.meaning.specs.Schedule.{takesLast, run, finishedBy, steps}
-use Rattle.meaning.proofs.Words.{same, and-left, and-right, or-way, within-true, by-held, naming-not-free, named-naming}
+use Rattle.meaning.proofs.Base.Words.{same, and-left, and-right, or-way, within-true, by-held, naming-not-free, named-naming}
 use Rattle.meaning.proofs.Invariant.{Chosen, Facts, holdsH, holdsLock, ownsHeaders, ownsBlock, Inv}
 use Rattle.meaning.proofs.Lines.{at, From, _▸_, from-at}
-use Rattle.meaning.proofs.EveryLine.{open-line}
-use Rattle.meaning.proofs.Settles.{cleared}
-use Rattle.meaning.proofs.Alone.{alone, with-threads, solo, alone-solo, threads-alone}
+use Rattle.meaning.proofs.Lines.EveryLine.{open-line}
+use Rattle.meaning.proofs.OneAtATime.Settles.{cleared}
+use Rattle.meaning.proofs.OneAtATime.Alone.{alone, with-threads, solo, alone-solo, threads-alone}
 
 -- ---- schedules that go, and finish nothing
 

@@ -1,21 +1,55 @@
--- A schedule in two parts leaves, answers and places in the order what the first part does and then, from the store that the first part
--- left, the second; over any kind of store. And steps that are refused.
+-- What a call comes to on any store: it is refused, or goes (`by-begin`, `by-step`). And a schedule in two parts leaves, answers and places in
+-- the order what the first part does and then, from the store that the first part left, the second; over any kind of store.
 -- Assumes nothing.
 use mathlib.Core.Path.{_≡_, refl, sym, ap, _∙_, subst}
-use mathlib.Core.Bool.{Bool, true, false, _&&_}
+use mathlib.Core.Bool.{Bool, true, false, _&&_, _||_}
 use mathlib.Core.List.{List, [], _∷_, _++_, append-assoc}
-use Prim.Native.Nat.{ℕ, zero, suc, _+_}
+use Prim.Native.Nat.{ℕ, zero, suc, _+_, _<_}
 use native.Mathlib.Omega.{arith}
-use lib.Dec.{eqb, leb}
+use lib.Dec.{eqb, ltb, leb}
+use borrow.Author.Tests.{ltb-true, eqb-true}
 use Rattle.meaning.specs.declared.Verdict.{Verdict}
 use Rattle.meaning.specs.declared.Verdict.the-variants.{Blocked, Fault, Go, Done}
-use Rattle.meaning.specs.Numbers.{WENT, FINISHED}
+use Rattle.meaning.specs.Numbers.{WENT, FINISHED, THREAD, BUSY, IDLE, LOGICAL, OPERATION}
+use Rattle.meaning.specs.Limits.{within}
 use Rattle.meaning.specs.Store.{Store}
-use Rattle.meaning.specs.Step.{verdict}
-use Rattle.meaning.specs.Call.{Reply, Entry, begin, step, callStore, reply, told}
-use Rattle.meaning.proofs.Words.{clash}
-use Rattle.meaning.proofs.Called.{by-step, refused-not}
+use Rattle.meaning.specs.Programs.{WRITE, LEVEL}
+use Rattle.meaning.specs.Step.{nothing, verdict, apply}
+use Rattle.meaning.specs.Call.{Outcome, refused, left, Reply, Entry, begin, step, beginning, stepping, callStore, reply, told, isIdle, begun}
 use Rattle.meaning.specs.Schedule.{Operation, Answered, emit, takesLast, run, placing, starting, finishing, order, finishedBy, steps, longest, whole, serial}
+use Rattle.meaning.proofs.Base.Words.{either-way, clash}
+
+-- ---- a call
+
+-- What is so of a refusal, and of the begin where it goes, is so of what a begin comes to.
+pub by-begin : (A : Outcome → Type 0) (s : Store) (t op n c : ℕ) →
+    ((number : ℕ) → leb number FINISHED ≡ false → A (refused number)) →
+    (t < s .threads → isIdle (s .thread t) ≡ true → within WRITE LEVEL op ≡ true → (eqb op LEVEL || ltb n (s .numbers)) ≡ true →
+    A (left WENT 0 (apply s t (begun op n c) nothing))) → A (beginning s t op n c)
+by-begin A s t op n c kept gone =
+    either-way (ltb t (s .threads))
+    (λ b. rw b (either-way (isIdle (s .thread t))
+    (λ x. rw x (either-way (within WRITE LEVEL op)
+    (λ y. rw y (either-way (eqb op LEVEL || ltb n (s .numbers)) (λ z. rw z (gone (ltb-true t (s .threads) b) x y z))
+    (λ z. rw z (kept LOGICAL refl))))
+    (λ y. rw y (kept OPERATION refl))))
+    (λ x. rw x (kept BUSY refl))))
+    (λ b. rw b (kept THREAD refl))
+
+-- Likewise of a step, whose verdict is told.
+pub by-step : (A : Outcome → Type 0) (s : Store) (t : ℕ) → ((number : ℕ) → leb number FINISHED ≡ false → A (refused number)) →
+    (t < s .threads → isIdle (s .thread t) ≡ false → A (told s t (verdict s t))) → A (stepping s t)
+by-step A s t kept gone =
+    either-way (ltb t (s .threads))
+    (λ b. rw b (either-way (isIdle (s .thread t)) (λ x. rw x (kept IDLE refl)) (λ x. rw x (gone (ltb-true t (s .threads) b) x))))
+    (λ b. rw b (kept THREAD refl))
+
+-- a number past FINISHED is neither WENT nor FINISHED
+pub refused-not : (number : ℕ) → leb number FINISHED ≡ false → (k : ℕ) → leb k FINISHED ≡ true → eqb number k ≡ false
+refused-not number x k small =
+    either-way (eqb number k) (λ y. clash small (subst (λ (m : ℕ). leb m FINISHED ≡ false) (eqb-true number k y) x)) (λ y. y)
+
+-- ---- schedules in two parts
 
 pub emit-append : {A : Type 0} (b : Bool) (x : A) (l m : List A) → emit b x l ++ m ≡ emit b x (l ++ m)
 emit-append true x l m = refl

@@ -22,15 +22,15 @@ use Rattle.meaning.specs.Choosing.{toBlock, leastWorn, fromBlock, moves}
 use Rattle.meaning.specs.Step.{verdict, put, apply}
 use Rattle.meaning.specs.Call.{isIdle, storedN, storedC}
 use Rattle.meaning.specs.Schedule.{takesLast, pastLast, mayMove, placed, operation}
-use Rattle.meaning.proofs.Words.{either-way, clash, and-left, and-right, or-way, free-held, held-once}
+use Rattle.meaning.proofs.Base.Words.{either-way, clash, and-left, and-right, or-way, free-held, held-once}
 use Rattle.meaning.proofs.Invariant.{h-heads-p, chosen-now, q-free, holdsH, ownsHeaders, takesH, takesN, Stands, GuardsHeader, GuardsWear, Inv}
-use Rattle.meaning.proofs.Keeping.{standing, everyLine, everywhere, up, put-kept, Moves}
+use Rattle.meaning.proofs.Invariant.Keeping.{standing, everyLine, everywhere, up, put-kept, Moves}
 use Rattle.meaning.proofs.Lines.{Fine}
-use Rattle.meaning.proofs.EveryLine.{fine}
-use Rattle.meaning.proofs.Demand1.{up-busy}
+use Rattle.meaning.proofs.Lines.EveryLine.{fine}
+use Rattle.meaning.proofs.Progress.{up-busy}
 use Rattle.meaning.proofs.EitherOrder.{Goes, goes, ends, Going, told-going, goes-unblocked}
-use Rattle.meaning.proofs.Shapes.{Shape, shape, Quiet, Onto, Lands, lands}
-use Rattle.meaning.proofs.Blocks.{Best, best-finds, finds, lacks}
+use Rattle.meaning.proofs.OneAtATime.Shapes.{Shape, shape, Quiet, Onto, Lands, lands}
+use Rattle.meaning.proofs.Base.Searches.{Best, best-finds, finds, lacks}
 
 -- ---- what is said
 

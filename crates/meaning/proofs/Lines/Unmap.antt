@@ -6,9 +6,9 @@ use Prim.Native.Nat.{ℕ}
 use Rattle.meaning.specs.Store.{Store}
 use Rattle.meaning.specs.Holding.{none, free}
 use Rattle.meaning.specs.Programs.{UNMAP}
-use Rattle.meaning.proofs.Words.{either-way, free-none, naming-not-none, upd-same}
-use Rattle.meaning.proofs.ManagerView.{keeps}
-use Rattle.meaning.proofs.Sharing.{owner-free, mapped-block-free, numbers-blocks}
+use Rattle.meaning.proofs.Base.Words.{either-way, free-none, naming-not-none, upd-same}
+use Rattle.meaning.proofs.Manager.View.{keeps}
+use Rattle.meaning.proofs.Invariant.Sharing.{owner-free, mapped-block-free, numbers-blocks}
 use Rattle.meaning.proofs.Lines.{for-H, for-N, Line, From, _▸_, n-held, p-held, mapped-freed, freed-agrees, unmapped-agrees, unmapped-mapped, looked-up, facts-idle, keeping}
 
 module _ (s : Store) (t : ℕ) where

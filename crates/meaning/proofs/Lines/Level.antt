@@ -11,8 +11,8 @@ use Rattle.meaning.specs.Choosing.{toBlock}
 use Rattle.meaning.specs.declared.Found.the-variants.{At}
 use Rattle.meaning.specs.Programs.{LEVEL, actAt}
 use Rattle.meaning.specs.Step.{onContent, onMap, perform, apply}
-use Rattle.meaning.proofs.Words.{either-way, same, naming-named, named-below, naming-not-free, naming-once, upd-same, upd-other}
-use Rattle.meaning.proofs.Sharing.{owner-free, mapped-block-free, free-block-free, settled-owner, numbers-blocks, to-found, from-below, content-guarded}
+use Rattle.meaning.proofs.Base.Words.{either-way, same, naming-named, named-below, naming-not-free, naming-once, upd-same, upd-other}
+use Rattle.meaning.proofs.Invariant.Sharing.{owner-free, mapped-block-free, free-block-free, settled-owner, numbers-blocks, to-found, from-below, content-guarded}
 use Rattle.meaning.proofs.Lines.{for-H, for-N, Fine, at, Line, From, _▸_, n-held, p-held, q-held, second-taken, second-given, mapped-headed, mapped-freed, headed-apart, headed-agrees, freed-agrees, moved-agrees, moved-mapped, keeps-moved, facts-idle, keeping}
 
 module _ (s : Store) (t : ℕ) where

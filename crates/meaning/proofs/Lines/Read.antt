@@ -7,9 +7,9 @@ use Rattle.meaning.specs.Store.{Store}
 use Rattle.meaning.specs.Holding.{free}
 use Rattle.meaning.specs.Programs.{READ}
 use Rattle.meaning.specs.Demands.{kept}
-use Rattle.meaning.proofs.Words.{either-way, naming-not-free}
-use Rattle.meaning.proofs.ManagerView.{due}
-use Rattle.meaning.proofs.Sharing.{mapped-block-free, numbers-blocks}
+use Rattle.meaning.proofs.Base.Words.{either-way, naming-not-free}
+use Rattle.meaning.proofs.Manager.View.{due}
+use Rattle.meaning.proofs.Invariant.Sharing.{mapped-block-free, numbers-blocks}
 use Rattle.meaning.proofs.Lines.{at, for-N, Line, From, _▸_, n-held, p-held, looked-up, kept-on, facts-idle, keeping}
 
 module _ (s : Store) (t : ℕ) where

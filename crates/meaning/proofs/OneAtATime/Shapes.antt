@@ -19,7 +19,7 @@ use Rattle.meaning.specs.Store.{Store}
 use Rattle.meaning.specs.Holding.{free, heldBy}
 use Rattle.meaning.specs.Choosing.{lowestFree, toBlock, leastWorn}
 use Rattle.meaning.specs.Step.{block, touches, heads, choosing, perform}
-use Rattle.meaning.proofs.Words.{either-way}
+use Rattle.meaning.proofs.Base.Words.{either-way}
 use Rattle.meaning.proofs.Invariant.{If}
 
 pub record Shape : Type 0 where

@@ -1,6 +1,6 @@
--- What a store comes to, `Settles s d a`: d is what s comes to when every thread that has its place in the order goes on to its end and
+-- What a store comes to, `SettlesTo s d a`: d is what s comes to when every thread that has its place in the order goes on to its end and
 -- the others let go, and a is what each thread's operation answers on the way. It doesn't matter in which order they go on: if a thread
--- moves first, the store that is left settles as before, by one induction over Settles, `moved-settles`, with either order at each step.
+-- moves first, the store that is left settles as before, by one induction over SettlesTo, `moved-settles`, with either order at each step.
 -- Assumes nothing.
 use mathlib.Core.Path.{_≡_, refl, sym, ap, _∙_, subst}
 use mathlib.Core.Bool.{Bool, true, false, _&&_, _||_, and-false}
@@ -19,14 +19,14 @@ use Rattle.meaning.specs.Programs.{WRITE, LEVEL}
 use Rattle.meaning.specs.Step.{nothing, verdict, apply}
 use Rattle.meaning.specs.Call.{Reply, step, callStore, isIdle, begun}
 use Rattle.meaning.specs.Schedule.{Answered, emit, takesLast, placed, finishing}
-use Rattle.meaning.proofs.Words.{either-way, clash, upd-other, upd-each}
+use Rattle.meaning.proofs.Base.Words.{either-way, clash, upd-other, upd-each}
 use Rattle.meaning.proofs.Invariant.{takesH, Inv}
-use Rattle.meaning.proofs.Keeping.{Moves}
-use Rattle.meaning.proofs.EveryLine.{idle-is, begins}
-use Rattle.meaning.proofs.Demand1.{inv-call}
+use Rattle.meaning.proofs.Invariant.Keeping.{Moves}
+use Rattle.meaning.proofs.Lines.EveryLine.{idle-is, begins}
+use Rattle.meaning.proofs.Progress.{inv-call}
 use Rattle.meaning.proofs.EitherOrder.{sameTake, sameTake-sym, Goes, Going, left-by, going-reply, going-moves, still, still-left}
-use Rattle.meaning.proofs.Shapes.{Quiet}
-use Rattle.meaning.proofs.Places.{went, over, Came, going-came, first-unplaced, placed-takesH, placed-takesN, placed-going, placed-kept, last-kept}
+use Rattle.meaning.proofs.OneAtATime.Shapes.{Quiet}
+use Rattle.meaning.proofs.OneAtATime.Places.{went, over, Came, going-came, first-unplaced, placed-takesH, placed-takesN, placed-going, placed-kept, last-kept}
 
 -- ---- what is said
 
@@ -59,17 +59,17 @@ answering s t u l = finishing callStore (λ s. s) s u (step t) l
 pub stepped-is : (s : Store) (t : ℕ) (g : Going s t) → stepped s t ≡ left-by s t g
 stepped-is s t g = ap (λ (x : Reply Store). x .after) (going-reply s t g)
 
-pub data Settles : Store → Store → (ℕ → List Answered) → Type 0 where
+pub data SettlesTo : Store → Store → (ℕ → List Answered) → Type 0 where
   rest : {s d : Store} {a : ℕ → List Answered} → ((v : ℕ) → placed s (s .thread v) ≡ false) → d ≡ cleared s →
-      ((u : ℕ) → a u ≡ []) → Settles s d a
-  more : {s d : Store} {a b : ℕ → List Answered} → (t : ℕ) → placed s (s .thread t) ≡ true → Settles (stepped s t) d b →
-      ((u : ℕ) → a u ≡ answering s t u (b u)) → Settles s d a
+      ((u : ℕ) → a u ≡ []) → SettlesTo s d a
+  more : {s d : Store} {a b : ℕ → List Answered} → (t : ℕ) → placed s (s .thread t) ≡ true → SettlesTo (stepped s t) d b →
+      ((u : ℕ) → a u ≡ answering s t u (b u)) → SettlesTo s d a
 
-pub settles-alike : {s d d′ : Store} {a a′ : ℕ → List Answered} → Settles s d a → d′ ≡ d → ((u : ℕ) → a′ u ≡ a u) →
-    Settles s d′ a′
-settles-alike {s} {d} {d′} {a} {a′} S to is = subst (λ (x : Store). Settles s x a′) (sym to) (go S)
+pub settles-alike : {s d d′ : Store} {a a′ : ℕ → List Answered} → SettlesTo s d a → d′ ≡ d → ((u : ℕ) → a′ u ≡ a u) →
+    SettlesTo s d′ a′
+settles-alike {s} {d} {d′} {a} {a′} S to is = subst (λ (x : Store). SettlesTo s x a′) (sym to) (go S)
   where
-    go : Settles s d a → Settles s d a′
+    go : SettlesTo s d a → SettlesTo s d a′
     go (rest nobody to none) = rest nobody to (λ u. is u ∙ none u)
     go (more t has S′ are) = more t has S′ (λ u. is u ∙ are u)
 
@@ -107,7 +107,7 @@ module _ (s : Store) (I : Inv s) (t : ℕ) (r′ : Thread) (e : Effect) (M : Mov
 -- what s comes to after the move: Rel says what becomes of the answers
 pub record Moved (s d : Store) (Rel : ℕ → List Answered → List Answered → Type 0) (a : ℕ → List Answered) : Type 0 where
   pub answers : ℕ → List Answered
-  pub settles : Settles s d answers
+  pub settles : SettlesTo s d answers
   pub related : (u : ℕ) → Rel u (a u) (answers u)
 
 -- Thread t can move on with record r′ and an effect (`Can s`), and still can when others that have their place have stepped. Then what
@@ -118,7 +118,7 @@ module _ (t : ℕ) (r′ : Thread) (e : Effect) (d d′ : Store) (Can : Store �
     (still : (s : Store) → Inv s → Can s → (u : ℕ) → (t ≡ u → ⊥) → placed s (s .thread u) ≡ true → Can (stepped s u))
     (last : (s : Store) (a : ℕ → List Answered) → Inv s → Can s → ((v : ℕ) → placed s (s .thread v) ≡ false) →
     d ≡ cleared s → ((u : ℕ) → a u ≡ []) → Moved (apply s t r′ e) d′ Rel a)
-    (own : (s : Store) (a b : ℕ → List Answered) → Inv s → Can s → placed s (s .thread t) ≡ true → Settles (stepped s t) d b →
+    (own : (s : Store) (a b : ℕ → List Answered) → Inv s → Can s → placed s (s .thread t) ≡ true → SettlesTo (stepped s t) d b →
     ((u : ℕ) → a u ≡ answering s t u (b u)) → Moved (apply s t r′ e) d′ Rel a)
     (others : (v u : ℕ) → (t ≡ v → ⊥) → (b : Bool) (x : Answered) (l l′ : List Answered) → Rel u l l′ →
     Rel u (emit (b && eqb v u) x l) (emit (b && eqb v u) x l′)) where
@@ -131,14 +131,14 @@ module _ (t : ℕ) (r′ : Thread) (e : Effect) (d d′ : Store) (Can : Store �
         answers = λ v. answering (apply s t r′ e) u v (after .answers v);
         settles =
             more u (still-placed s I t r′ e M (below s C) u apart has)
-            (subst (λ (x : Store). Settles x d′ (after .answers)) (sym (stepped-after s I t r′ e M (below s C) u apart has))
+            (subst (λ (x : Store). SettlesTo x d′ (after .answers)) (sym (stepped-after s I t r′ e M (below s C) u apart has))
             (after .settles)) (λ v. refl);
         related =
             λ v. rw (is v, answering-after s I t r′ e M (below s C) u apart has v (after .answers v))
             (others u v apart (eqb (callStore s (step u) .number) FINISHED) _ (b v) (after .answers v) (after .related v));
       }
 
-  pub moved-settles : {s : Store} {a : ℕ → List Answered} → Inv s → Can s → Settles s d a → Moved (apply s t r′ e) d′ Rel a
+  pub moved-settles : {s : Store} {a : ℕ → List Answered} → Inv s → Can s → SettlesTo s d a → Moved (apply s t r′ e) d′ Rel a
   moved-settles {s} {a} I C (rest nobody is none) = last s a I C nobody is none
   moved-settles {s} {a} I C (more {b = b} u has S is) =
       either-way (eqb t u)
@@ -248,7 +248,7 @@ module _ (t : ℕ) (r : Thread) (n x : ℕ) (r′ : Thread) (e : Effect) where
       go (went _ w) = (w .quiet (rw (C .is) (C .has)), w .place ∙ rw (C .is, C .has, C .takes))
       go (over _ _ has) = clash has (rw (C .is) (C .has))
 
-  pub early-settles : {s d : Store} {a : ℕ → List Answered} → Inv s → Early s → Settles s d a → Moved (apply s t r′ e) d Alike a
+  pub early-settles : {s d : Store} {a : ℕ → List Answered} → Inv s → Early s → SettlesTo s d a → Moved (apply s t r′ e) d Alike a
   early-settles {d = d} =
       moved-settles t r′ e d d Early Alike (ready-moves t r n x r′ e false false) (λ s C. C .below)
       (ready-still t r n x r′ e false false)
@@ -281,7 +281,7 @@ module _ (t op n c : ℕ) (known : within WRITE LEVEL op ≡ true) where
         logical = C .logical;
       })
 
-  pub begin-settles : {s d : Store} {a : ℕ → List Answered} → Inv s → Begins s → Settles s d a →
+  pub begin-settles : {s d : Store} {a : ℕ → List Answered} → Inv s → Begins s → SettlesTo s d a →
       Moved (apply s t (begun op n c) nothing) d Alike a
   begin-settles {d = d} =
       moved-settles t (begun op n c) nothing d d Begins Alike begins-moves (λ s C. C .below) begins-still
@@ -305,7 +305,7 @@ module _ (t : ℕ) (r : Thread) (n x : ℕ) (r′ : Thread) (e : Effect) (l : Bo
   abbrev pub Answering : ℕ → List Answered → List Answered → Type 0
   Answering u m m′ = m ≡ answer-of t r n x r′ e true l u m′
 
-  pub late-settles : {s d : Store} {a : ℕ → List Answered} → Inv s → Ready t r n x r′ e true l s → Settles s d a →
+  pub late-settles : {s d : Store} {a : ℕ → List Answered} → Inv s → Ready t r n x r′ e true l s → SettlesTo s d a →
       Moved (apply s t r′ e) d Answering a
   late-settles {d = d} =
       moved-settles t r′ e d d (Ready t r n x r′ e true l) Answering
@@ -314,7 +314,7 @@ module _ (t : ℕ) (r : Thread) (n x : ℕ) (r′ : Thread) (e : Effect) (l : Bo
       (λ s a b I C has S is.
       record {
         answers = b;
-        settles = subst (λ (y : Store). Settles y d b) (ready-stepped t r n x r′ e true l s C) S;
+        settles = subst (λ (y : Store). SettlesTo y d b) (ready-stepped t r n x r′ e true l s C) S;
         related = λ u. is u ∙ ready-answering t r n x r′ e true l s C u (b u);
       })
       (λ v u apart b y m m′ is.

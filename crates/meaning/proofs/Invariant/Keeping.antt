@@ -22,9 +22,9 @@ use Rattle.meaning.specs.Holding.{free, heldBy, naming, named}
 use Rattle.meaning.specs.Programs.{WRITE, LEVEL, lastLine}
 use Rattle.meaning.specs.Step.{become, put, apply}
 use Rattle.meaning.specs.Demands.{kept}
-use Rattle.meaning.proofs.Words.{same, either-way, and-left, and-right, or-way, within-true, by-other, none-held, free-held, held-is, held-once, naming-named, upd-other, upd-each}
+use Rattle.meaning.proofs.Base.Words.{same, either-way, and-left, and-right, or-way, within-true, by-other, none-held, free-held, held-is, held-once, naming-named, upd-other, upd-each}
 use Rattle.meaning.proofs.Invariant.{takesH, takesN, takesLock, takes, gives, holdsH, holdsN, ownsHeaders, ownsP, ownsQ, n-unmapped, n-on-p, n-on-q, p-free, q-free, p-headed, q-headed, h-heads-p, chosen-now, c-of-p, q-has-c, c-of-n, If, ownsBlock, leadsAstray, Holds, Facts, Stands, Changes, Puts, Passes, GuardsMap, GuardsHeader, GuardsContent, GuardsWear, Guards, Agrees, Back, Astray, Inv}
-use Rattle.meaning.proofs.ManagerView.{keeps, leaves, promised}
+use Rattle.meaning.proofs.Manager.View.{keeps, leaves, promised}
 
 -- ---- a rule of the table, tested at every line
 

@@ -41,16 +41,16 @@ use Rattle.meaning.specs.Programs.{WRITE, READ, UNMAP, LEVEL}
 use Rattle.meaning.specs.Call.{Entry, callStore}
 use Rattle.meaning.specs.Manager.{Manager, empty, initial, ebmRead}
 use Rattle.meaning.specs.Schedule.{Operation, Answered, run, order, begunBy, finishedBy, obey, obeyAll, managed, ofManager}
-use Rattle.meaning.specs.Demands.{byThread, ofThread, answeredOps, pending, placedOp, requestOf, requests, place, Without, writes, changes, Gives, last-write, last-unmap, untouched, Linearizes, InRealTime}
-use Rattle.meaning.proofs.Words.{same, either-way, clash, and-left, and-right, naming-once, naming-named}
+use Rattle.meaning.specs.Demands.{byThread, ofThread, answeredOps, pending, placedOp, requestOf, requests, place, Without, writes, changes, Gives, last-write, last-unmap, untouched, InRealTime}
+use Rattle.meaning.proofs.Base.Words.{same, either-way, clash, and-left, and-right, naming-once, naming-named}
 use Rattle.meaning.proofs.Invariant.{Inv}
-use Rattle.meaning.proofs.Demand1.{inv-fresh, inv-run}
-use Rattle.meaning.proofs.ManagerView.{owing}
-use Rattle.meaning.proofs.Schedules.{order-append}
-use Rattle.meaning.proofs.ManagerLaws.{obey-reads, obeyAll-append}
-use Rattle.meaning.proofs.ManagerAnswers.{manager-owing, manager-answers}
-use Rattle.meaning.proofs.Requests.{those-append, requests-ofThread, managed-length, place-first, place-second}
-use Rattle.meaning.proofs.EachOnce.{each-once}
+use Rattle.meaning.proofs.Progress.{inv-fresh, inv-run}
+use Rattle.meaning.proofs.Manager.View.{owing}
+use Rattle.meaning.proofs.Base.Schedules.{order-append}
+use Rattle.meaning.proofs.Manager.Laws.{obey-reads, obeyAll-append}
+use Rattle.meaning.proofs.Manager.Answers.{manager-owing}
+use Rattle.meaning.proofs.Base.Requests.{those-append, requests-ofThread, managed-length, place-first, place-second}
+use Rattle.meaning.proofs.OneAtATime.EachOnce.{each-once}
 
 -- ---- what the manager reads
 
@@ -160,9 +160,10 @@ read-answered m u l o l′ op thread = managed-append m u l (o ∷ l′) ∙ rw 
 -- ---- linearizability
 
 module _ (t n p d : ℕ) (limits : inLimits t n p d ≡ true) where
-  asked : (w : List Entry) (u : ℕ) → requests u (begunBy callStore (λ s. s) (fresh t n p d) u w) ≡
+  -- what a thread has begun is what it has in the order, and then what has no place yet
+  pub requests-begun : (w : List Entry) (u : ℕ) → requests u (begunBy callStore (λ s. s) (fresh t n p d) u w) ≡
       requests u (order callStore (λ s. s) (fresh t n p d) w) ++ requests u (pending u (run callStore (fresh t n p d) w))
-  asked w u =
+  requests-begun w u =
       let l = order callStore (λ s. s) (fresh t n p d) w in
       ap (requests u) (each-once t n p d limits w u .begun-once) ∙ those-append (requestOf u) (ofThread u l) (pending u (run callStore (fresh t n p d) w))
       ∙ ap (λ r. r ++ requests u (pending u (run callStore (fresh t n p d) w))) (requests-ofThread u l)
@@ -181,7 +182,7 @@ module _ (t n p d : ℕ) (limits : inLimits t n p d ≡ true) where
       length (requests u (begunBy callStore (λ s. s) (fresh t n p d) u w))
   placed-begun w u =
       let s = fresh t n p d in
-      let x = ap length (asked w u) ∙ length-append (requests u (order callStore (λ s. s) s w)) (requests u (pending u (run callStore s w))) in
+      let x = ap length (requests-begun w u) ∙ length-append (requests u (order callStore (λ s. s) s w)) (requests u (pending u (run callStore s w))) in
       omega arith
 
   -- the order of a schedule in two parts is in two parts
@@ -204,15 +205,7 @@ module _ (t n p d : ℕ) (limits : inLimits t n p d ≡ true) where
       let y = place-second (requestOf u′) l l′ i′ (omega arith) in
       rw (real-time-parts v v′) (omega arith)
 
-  pub linearizable : (w : List Entry) → Linearizes callStore (λ s. s) (fresh t n p d) w
-  linearizable w =
-      record {
-        asks = asked w;
-        answers = manager-answers t n p d limits w;
-        real-time = λ v v′ whole u i u′ i′ finished unbegun. rw (← whole) (real-time v v′ u i u′ i′ finished unbegun);
-      }
-
-  -- the same of all operations, levellings too
+  -- and of all operations, levellings too
   pub in-real-time : (w : List Entry) → InRealTime callStore (λ s. s) (fresh t n p d) w
   in-real-time w v v′ whole u i u′ i′ finished unbegun =
       let s = fresh t n p d in

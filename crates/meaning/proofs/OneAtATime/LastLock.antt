@@ -14,15 +14,15 @@ use Rattle.meaning.specs.Store.{Store}
 use Rattle.meaning.specs.Step.{apply}
 use Rattle.meaning.specs.Call.{Reply, Entry, begin, step, callStore}
 use Rattle.meaning.specs.Schedule.{Operation, operation, Answered, emit, takesLast, placed, run, finishedBy, steps, longest, whole}
-use Rattle.meaning.proofs.Words.{clash, upd-same}
+use Rattle.meaning.proofs.Base.Words.{clash, upd-same}
 use Rattle.meaning.proofs.Invariant.{Inv}
-use Rattle.meaning.proofs.Keeping.{moves-inv}
+use Rattle.meaning.proofs.Invariant.Keeping.{moves-inv}
 use Rattle.meaning.proofs.EitherOrder.{Going, left-by, going-moves}
-use Rattle.meaning.proofs.Places.{Went, went, over, Came, going-came}
-use Rattle.meaning.proofs.Settles.{cleared, stepped, answering, Settles, settles-alike, Moved, moved-settles, Ready, ready-going, ready-moves, ready-still}
-use Rattle.meaning.proofs.Alone.{alone, lines-end, next-nobody, step-alone, ends-as, ends-with, going, placed-settles}
-use Rattle.meaning.proofs.Schedules.{emit-append, steps-split, run-append, finishedBy-append}
-use Rattle.meaning.proofs.Replay.{Replayed, last-replayed}
+use Rattle.meaning.proofs.OneAtATime.Places.{Went, went, over, Came, going-came}
+use Rattle.meaning.proofs.OneAtATime.Settles.{cleared, stepped, answering, SettlesTo, settles-alike, Moved, moved-settles, Ready, ready-going, ready-moves, ready-still}
+use Rattle.meaning.proofs.OneAtATime.Alone.{alone, lines-end, next-nobody, step-alone, ends-as, ends-with, going, placed-settles}
+use Rattle.meaning.proofs.Base.Schedules.{emit-append, steps-split, run-append, finishedBy-append}
+use Rattle.meaning.proofs.OneAtATime.Replay.{Replayed, last-replayed}
 
 abbrev pub answers-of : Store → List Entry → ℕ → List Answered
 answers-of s w u = finishedBy callStore (λ s. s) s u w
@@ -82,7 +82,7 @@ module _ (s : Store) (I : Inv s) (t : ℕ) (g : Going s t) (takes : takesLast s 
       ∙ ap (λ (x : Store). ends-with rest-of t x u) taken
 
   settled : Went s t (g .becomes) (g .effect) → ((v : ℕ) → placed s (s .thread v) ≡ false) →
-      Settles (left-by s t g) (ends-as rest-of t (alone t (left-by s t g))) (ends-with rest-of t (alone t (left-by s t g)))
+      SettlesTo (left-by s t g) (ends-as rest-of t (alone t (left-by s t g))) (ends-with rest-of t (alone t (left-by s t g)))
   settled w nobody =
       placed-settles rest-of (left-by s t g)
       (moves-inv s I t (g .becomes) (g .effect) (going-moves s t I g) (g .below)) t
@@ -121,7 +121,7 @@ module _ (t : ℕ) (r : Thread) (n x : ℕ) (r′ : Thread) (e : Effect) (d : St
       }
   takes-alone s a I C nobody is none (over _ _ has) = clash has (nobody t)
 
-  pub last-settles : {s : Store} {a : ℕ → List Answered} → Inv s → Takes s → Settles s d a →
+  pub last-settles : {s : Store} {a : ℕ → List Answered} → Inv s → Takes s → SettlesTo s d a →
       Moved (apply s t r′ e) (after-whole r) (Adding r) a
   last-settles =
       moved-settles t r′ e d (after-whole r) Takes (Adding r) (ready-moves t r n x r′ e false true) (λ s C. C .below)

@@ -24,14 +24,14 @@ use Rattle.meaning.specs.Programs.{actAt}
 use Rattle.meaning.specs.Step.{block, perform, verdict, become, put, apply}
 use Rattle.meaning.specs.Call.{Reply, step, callStore, isIdle}
 use Rattle.meaning.specs.Schedule.{Answered, placed, run, finishedBy, steps, longest}
-use Rattle.meaning.proofs.Words.{same, either-way, by-held, held-is, none-held, upd-same, upd-other}
+use Rattle.meaning.proofs.Base.Words.{same, either-way, by-held, held-is, none-held, upd-same, upd-other}
 use Rattle.meaning.proofs.Invariant.{holdsH, holdsLock, ownsHeaders, ownsBlock, takesH, takesLock, Passes, takes, gives, Changes, Puts, Guards, Inv}
-use Rattle.meaning.proofs.Keeping.{everywhere}
-use Rattle.meaning.proofs.EveryLine.{idle-is}
-use Rattle.meaning.proofs.Demand1.{inv-call, no-fault}
+use Rattle.meaning.proofs.Invariant.Keeping.{everywhere}
+use Rattle.meaning.proofs.Lines.EveryLine.{idle-is}
+use Rattle.meaning.proofs.Progress.{inv-call, no-fault}
 use Rattle.meaning.proofs.EitherOrder.{Going, left-by, going-reply, going-moves, goes-unblocked}
-use Rattle.meaning.proofs.Places.{went, over, Came, going-came, placed-going, placed-kept}
-use Rattle.meaning.proofs.Settles.{cleared, stepped, stepped-is, answering, Settles, rest, more}
+use Rattle.meaning.proofs.OneAtATime.Places.{went, over, Came, going-came, placed-going, placed-kept}
+use Rattle.meaning.proofs.OneAtATime.Settles.{cleared, stepped, stepped-is, answering, SettlesTo, rest, more}
 
 -- ---- what is said
 
@@ -274,7 +274,7 @@ lines-end s I t =
     omega arith
 
 idle-settles : (k : ℕ) (s : Store) → Inv s → (t : ℕ) → Nobody-but t s → isIdle (s .thread t) ≡ true →
-    Settles s (ends-as k t (alone t s)) (ends-with k t (alone t s))
+    SettlesTo s (ends-as k t (alone t s)) (ends-with k t (alone t s))
 idle-settles k s I t nobody rests =
     let is = idle-is (s .thread t) (I .stands t) rests in
     let rests′ : isIdle (alone t s .thread t) ≡ true = rw (same t) rests in
@@ -286,11 +286,11 @@ idle-settles k s I t nobody rests =
 
 -- one step more
 step-settles : (k : ℕ) (s : Store) → Inv s → (t : ℕ) → placed s (s .thread t) ≡ true →
-    Settles (stepped s t) (ends-as k t (alone t (stepped s t))) (ends-with k t (alone t (stepped s t))) →
-    Settles s (ends-as (suc k) t (alone t s)) (ends-with (suc k) t (alone t s))
+    SettlesTo (stepped s t) (ends-as k t (alone t (stepped s t))) (ends-with k t (alone t (stepped s t))) →
+    SettlesTo s (ends-as (suc k) t (alone t s)) (ends-with (suc k) t (alone t s))
 step-settles k s I t has S =
     let g = placed-going s I t has in
-    more t has (subst (λ (x : Store). Settles (stepped s t) (ends-as k t x) (ends-with k t x)) (sym (stepped-alone s I t g)) S)
+    more t has (subst (λ (x : Store). SettlesTo (stepped s t) (ends-as k t x) (ends-with k t x)) (sym (stepped-alone s I t g)) S)
     (λ u. answering-alone s I t g u (ends-with k t (stepped (alone t s) t) u))
 
 -- after its step it is at rest, or has a line less before it
@@ -307,7 +307,7 @@ next-nobody s I t g nobody v apart =
     (placed-kept s I t (g .becomes) (g .effect) (going-moves s t I g) v apart ∙ nobody v apart)
 
 pub placed-settles : (k : ℕ) (s : Store) → Inv s → (t : ℕ) → Nobody-but t s → Within t k s →
-    Settles s (ends-as k t (alone t s)) (ends-with k t (alone t s))
+    SettlesTo s (ends-as k t (alone t s)) (ends-with k t (alone t s))
 placed-settles zero s I t nobody (resting x) = idle-settles zero s I t nobody x
 placed-settles zero s I t nobody (going has b) = absurd (let e = lines-end s I t in omega arith)
 placed-settles (suc k) s I t nobody (resting x) = idle-settles (suc k) s I t nobody x

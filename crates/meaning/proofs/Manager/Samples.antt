@@ -12,7 +12,7 @@ use Rattle.meaning.specs.Call.{Entry, begin, callStore}
 use Rattle.meaning.specs.Manager.{initial}
 use Rattle.meaning.specs.Schedule.{operation, run, replies, steps, order, finishedBy, obeyAll}
 use Rattle.meaning.specs.Demands.{kept}
-use Rattle.meaning.proofs.ManagerView.{future, owing}
+use Rattle.meaning.proofs.Manager.View.{future, owing}
 
 -- ---- a read that overtakes an unmap
 

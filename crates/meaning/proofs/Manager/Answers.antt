@@ -21,19 +21,19 @@ use Rattle.meaning.specs.Step.{nothing, apply}
 use Rattle.meaning.specs.Call.{Entry, begin, step, callStore, isIdle, begun}
 use Rattle.meaning.specs.Manager.{Manager, initial, ebmRead}
 use Rattle.meaning.specs.Schedule.{Operation, operation, Answered, emit, takesLast, pastLast, placed, run, placing, finishing, order, finishedBy, obeyAll, managed, ofManager}
-use Rattle.meaning.specs.Demands.{kept, leavesAlone, Owed, none-owed, one-owed, ManagerAnswers}
-use Rattle.meaning.proofs.Words.{same, either-way, clash, or-way, two-ways, held-by, upd-same}
+use Rattle.meaning.specs.Demands.{kept, leavesAlone, Owed, none-owed, one-owed}
+use Rattle.meaning.proofs.Base.Words.{same, either-way, clash, or-way, two-ways, held-by, upd-same}
 use Rattle.meaning.proofs.Invariant.{takesN, Stands, Inv}
-use Rattle.meaning.proofs.Keeping.{Moves, up}
-use Rattle.meaning.proofs.Sharing.{fact}
+use Rattle.meaning.proofs.Invariant.Keeping.{Moves, up}
+use Rattle.meaning.proofs.Invariant.Sharing.{fact}
 use Rattle.meaning.proofs.Lines.{GoesOn}
-use Rattle.meaning.proofs.EveryLine.{idle-is}
-use Rattle.meaning.proofs.Demand1.{inv-fresh, inv-call, inv-run}
-use Rattle.meaning.proofs.ManagerView.{keeps, asked, leaves, future, owes, answered, due, owing}
-use Rattle.meaning.proofs.Called.{Called, stays, opens, goes, ends, call-cases, replied}
-use Rattle.meaning.proofs.Schedules.{placing-append, finishing-append}
-use Rattle.meaning.proofs.ManagerLaws.{operation-asked, level-obeys, obeyAll-append, managed-passes}
-use Rattle.meaning.proofs.ManagerStep.{future-free, future-held, future-step, takes-keeps, owing-others}
+use Rattle.meaning.proofs.Lines.EveryLine.{idle-is}
+use Rattle.meaning.proofs.Progress.{inv-fresh, inv-call, inv-run}
+use Rattle.meaning.proofs.Manager.View.{keeps, asked, leaves, future, owes, answered, due, owing}
+use Rattle.meaning.proofs.Progress.Called.{CallCases, stays, opens, goes, ends, call-cases, replied}
+use Rattle.meaning.proofs.Base.Schedules.{placing-append, finishing-append}
+use Rattle.meaning.proofs.Manager.Laws.{operation-asked, level-obeys, obeyAll-append, managed-passes}
+use Rattle.meaning.proofs.Manager.Step.{future-free, future-held, future-step, takes-keeps, owing-others}
 
 -- the manager has of each number what the store says will become of it
 abbrev pub Matches : Store → Manager → Type 0
@@ -125,7 +125,7 @@ module _ (s : Store) (I : Inv s) (m : Manager) (M : Matches s m) where
   ends-takes : (t : ℕ) (e : Effect) → Moves s t (s .thread t) idle e → takesN (s .thread t) ≡ false
   ends-takes t e g = either-way (takesN (s .thread t)) (λ y. clash (fact (takesN (s .thread t)) _ y (g .taken)) refl) (λ y. y)
 
-  pub serves : {e : Entry} → Called s e → Serves s m e
+  pub serves : {e : Entry} → CallCases s e → Serves s m e
   serves (stays {e} number went finished x) = refused e number went finished x
   serves (opens t op n c below rests b x) =
       record {
@@ -153,7 +153,7 @@ module _ (s : Store) (I : Inv s) (m : Manager) (M : Matches s m) where
 
 -- ---- over schedules
 
-ofManager-append : (l l′ : List Answered) → ofManager (l ++ l′) ≡ ofManager l ++ ofManager l′
+pub ofManager-append : (l l′ : List Answered) → ofManager (l ++ l′) ≡ ofManager l ++ ofManager l′
 ofManager-append [] l′ = refl
 ofManager-append (x ∷ l) l′ =
     either-way (eqb (x .op) LEVEL) (λ y. rw y (ofManager-append l l′)) (λ y. rw (y, ofManager-append l l′))
@@ -197,7 +197,7 @@ future-alone s k alone =
     rw (x, writes, reads)))
 
 -- what is owed to a thread with its place is owed by the manager, but for a levelling's answer
-owing-owed : (s : Store) → Inv s → (u : ℕ) → (l : List Answered) × Owed s u l × (owing s u ≡ ofManager l)
+pub owing-owed : (s : Store) → Inv s → (u : ℕ) → (l : List Answered) × Owed s u l × (owing s u ≡ ofManager l)
 owing-owed s I u =
     let r = s .thread u in
     let late : owes r ≡ true → placed s r ≡ true = λ x. rw (up owes pastLast refl r (I .stands u) x) in
@@ -226,16 +226,6 @@ module _ (t n p d : ℕ) (limits : inLimits t n p d ≡ true) (w : List Entry) w
       managed initial u (order callStore (λ s. s) (fresh t n p d) w) ≡
       ofManager (finishedBy callStore (λ s. s) (fresh t n p d) u w) ++ owing (run callStore (fresh t n p d) w) u
   manager-owing u = answers-run (fresh t n p d) (inv-fresh t n p d limits) initial (λ k. refl) u w
-
-  pub manager-answers : (u : ℕ) → ManagerAnswers callStore (λ s. s) (fresh t n p d) w u
-  manager-answers u =
-      let fin = finishedBy callStore (λ s. s) (fresh t n p d) u w in
-      let o = owing-owed (run callStore (fresh t n p d) w) (inv-run (fresh t n p d) (inv-fresh t n p d limits) w) u in
-      record {
-        rest-owed = o .0;
-        owed = o .1;
-        answers = manager-owing u ∙ ap (λ l. ofManager fin ++ l) (o .2) ∙ sym (ofManager-append fin (o .0));
-      }
 
   -- so its finished answers are the first so many of the manager's, all but one at most
   pub finished-first : (u : ℕ) →

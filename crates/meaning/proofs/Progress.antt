@@ -1,6 +1,10 @@
 -- Demand 1, over stores. Each store that a schedule leaves, starting from a format in limits, satisfies the invariant; no step of such
 -- a store faults; and where some thread has open work, some open thread can step.
+--  * Called: what a call comes to, four cases. To be read first.
+--  * Guarded: what the invariant says of headers, map and wear: 01, "Where a reasonable person goes wrong".
 -- Assumes nothing.
+pub mod Called
+pub mod Guarded
 use mathlib.Core.Path.{_≡_, refl, sym, _∙_, subst}
 use mathlib.Core.Bool.{Bool, true, false}
 use mathlib.Core.List.{List, [], _∷_}
@@ -19,13 +23,13 @@ use Rattle.meaning.specs.Holding.{none, free, heldBy}
 use Rattle.meaning.specs.Step.{nothing, verdict}
 use Rattle.meaning.specs.Call.{Entry, step, callStore, reply, told, isIdle, begun}
 use Rattle.meaning.specs.Schedule.{run, Grown, formatted, called}
-use Rattle.meaning.proofs.Words.{either-way, clash, and-left, none-held, held-by, held-below, naming-not-none}
+use Rattle.meaning.proofs.Base.Words.{either-way, clash, and-left, none-held, held-by, held-below, naming-not-none}
 use Rattle.meaning.proofs.Invariant.{holdsH, holdsN, ownsHeaders, holdsLock, ownsBlock, Inv}
-use Rattle.meaning.proofs.Keeping.{moves-inv}
-use Rattle.meaning.proofs.Sharing.{limits-sizes}
+use Rattle.meaning.proofs.Invariant.Keeping.{moves-inv}
+use Rattle.meaning.proofs.Invariant.Sharing.{limits-sizes}
 use Rattle.meaning.proofs.Lines.{Waits, for-H, for-N, Fine, facts-idle}
-use Rattle.meaning.proofs.EveryLine.{idle-is, fine}
-use Rattle.meaning.proofs.Called.{Called, stays, opens, goes, ends, call-cases}
+use Rattle.meaning.proofs.Lines.EveryLine.{idle-is, fine}
+use Rattle.meaning.proofs.Progress.Called.{CallCases, stays, opens, goes, ends, call-cases}
 
 -- ---- every store grown from fresh satisfies the invariant
 
@@ -48,7 +52,7 @@ inv-fresh t n p d l =
     }
 
 -- refused calls leave the store as it was
-inv-called : (s : Store) → Inv s → {e : Entry} → Called s e → Inv (callStore s e .after)
+inv-called : (s : Store) → Inv s → {e : Entry} → CallCases s e → Inv (callStore s e .after)
 inv-called s I (stays number _ _ x) = rw x I
 inv-called s I (opens t op n c below rests m x) = rw x (moves-inv s I t (begun op n c) nothing m below)
 inv-called s I (goes t r′ e below busy g x) = rw x (moves-inv s I t r′ e (g .moves) below)

@@ -13,15 +13,15 @@ use Rattle.meaning.specs.Store.{Store, idle}
 use Rattle.meaning.specs.Programs.{WRITE, LEVEL, lastLine}
 use Rattle.meaning.specs.Step.{nothing, verdict}
 use Rattle.meaning.specs.Call.{isIdle, begun, storedN}
-use Rattle.meaning.proofs.Words.{either-way, clash, and-left, and-right, within-true}
+use Rattle.meaning.proofs.Base.Words.{either-way, clash, and-left, and-right, within-true}
 use Rattle.meaning.proofs.Invariant.{Holds, onLine, Stands, Inv}
-use Rattle.meaning.proofs.Keeping.{Moves}
-use Rattle.meaning.proofs.Sharing.{numbers-blocks}
+use Rattle.meaning.proofs.Invariant.Keeping.{Moves}
+use Rattle.meaning.proofs.Invariant.Sharing.{numbers-blocks}
 use Rattle.meaning.proofs.Lines.{Fine, Line, From, _▸_, from-at, keeping}
-use Rattle.meaning.proofs.Write.{writes}
-use Rattle.meaning.proofs.Read.{reads}
-use Rattle.meaning.proofs.Unmap.{unmaps}
-use Rattle.meaning.proofs.Level.{levels}
+use Rattle.meaning.proofs.Lines.Write.{writes}
+use Rattle.meaning.proofs.Lines.Read.{reads}
+use Rattle.meaning.proofs.Lines.Unmap.{unmaps}
+use Rattle.meaning.proofs.Lines.Level.{levels}
 
 -- ---- idle or open
 

@@ -1,4 +1,4 @@
--- What one step does to what will become of the numbers and to what is owed (ManagerView): at a number's lock it is what the manager does,
+-- What one step does to what will become of the numbers and to what is owed (View): at a number's lock it is what the manager does,
 -- and at every other line nothing.
 -- Assumes nothing.
 use mathlib.Core.Path.{_≡_, refl, sym, _∙_, subst}
@@ -13,11 +13,11 @@ use Rattle.meaning.specs.Store.{Store}
 use Rattle.meaning.specs.Holding.{free, heldBy, named}
 use Rattle.meaning.specs.Programs.{READ}
 use Rattle.meaning.specs.Step.{apply}
-use Rattle.meaning.proofs.Words.{same, either-way, clash, held-is, held-not-free, held-once, held-by, held-same, turned-free, upd-same, upd-other}
+use Rattle.meaning.proofs.Base.Words.{same, either-way, clash, held-is, held-not-free, held-once, held-by, held-same, turned-free, upd-same, upd-other}
 use Rattle.meaning.proofs.Invariant.{takesN, takesLock, holdsN, holdsLock, Inv}
-use Rattle.meaning.proofs.Keeping.{Moves, up, entry-kept, unheld-keeps, unheld-kept}
-use Rattle.meaning.proofs.Sharing.{fact}
-use Rattle.meaning.proofs.ManagerView.{keeps, leaves, promised, future, owes, owing}
+use Rattle.meaning.proofs.Invariant.Keeping.{Moves, up, entry-kept, unheld-keeps, unheld-kept}
+use Rattle.meaning.proofs.Invariant.Sharing.{fact}
+use Rattle.meaning.proofs.Manager.View.{keeps, leaves, promised, future, owes, owing}
 
 -- ---- what will become of a number, where its lock is free and where it is held
 

@@ -16,11 +16,11 @@ use Rattle.meaning.specs.Holding.{free, naming}
 use Rattle.meaning.specs.Step.{put, apply}
 use Rattle.meaning.specs.Call.{Entry, step, callStore}
 use Rattle.meaning.specs.Guarding.{between, HeadersAgree, WearUnderH}
-use Rattle.meaning.proofs.Words.{either-way, clash, and-left, and-right, or-way, naming-once, naming-not-none, upd-other}
+use Rattle.meaning.proofs.Base.Words.{either-way, clash, and-left, and-right, or-way, naming-once, naming-not-none, upd-other}
 use Rattle.meaning.proofs.Invariant.{holdsH, n-unmapped, n-on-p, n-on-q, p-headed, q-headed, p-apart-q, p-astray, q-astray, leadsAstray, Puts, GuardsWear, Back, Astray, Inv}
-use Rattle.meaning.proofs.Keeping.{up, Moves}
-use Rattle.meaning.proofs.Sharing.{fact, settled-free}
-use Rattle.meaning.proofs.Called.{Called, stays, opens, goes, ends, call-cases}
+use Rattle.meaning.proofs.Invariant.Keeping.{up, Moves}
+use Rattle.meaning.proofs.Invariant.Sharing.{fact, settled-free}
+use Rattle.meaning.proofs.Progress.Called.{CallCases, stays, opens, goes, ends, call-cases}
 
 -- ---- headers and map
 
@@ -87,7 +87,7 @@ module _ (s : Store) (I : Inv s) where
         after = M .holds .lock ∙ put-changed (e .wear) (s .wear) (λ m w. holdsH r′ ≡ true) (M .still-H) m x .1;
       }
 
-  call-under : {e : Entry} → Called s e → WearUnderH s (callStore s e .after) e
+  call-under : {e : Entry} → CallCases s e → WearUnderH s (callStore s e .after) e
   call-under (stays number _ _ is) = λ m x. absurd (x (rw is))
   call-under (opens t op n c _ _ _ is) = λ m x. absurd (x (rw is))
   call-under (goes t r′ e _ _ g is) = rw is (step-under t r′ e (g .moves))

@@ -26,7 +26,7 @@ use Rattle.meaning.proofs.Progress.{no-fault, progress}
 use Rattle.store.specs.Layout.{size}
 use Rattle.store.specs.Area.{Bytes, encode, decode, wellFormed}
 use Rattle.store.specs.Calls.{formatArea, callArea, stepArea, Grown}
-use Rattle.demands.specs.Demand1.{known, rests, operable, numbered, Refusals, UnfinishedValue, Open, CanStep, SameSizes}
+use Rattle.demands.specs.RefusalTables.{known, rests, operable, numbered, Refusals, UnfinishedValue, Open, CanStep, SameSizes}
 use Rattle.demands.proofs.Refusals.{said, refusal-tables, calling-each, call-refusing}
 use Rattle.demands.proofs.Bridge.{after-call, grown-good, grown-inv}
 

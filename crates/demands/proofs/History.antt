@@ -22,7 +22,7 @@ use Rattle.store.specs.Area.{decode}
 use Rattle.store.specs.Calls.{callArea, Formatted}
 use Rattle.store.proofs.Sound.{SoundThread}
 use Rattle.store.proofs.Range.{Ranged, Good, good-ranged, formatted-good, formatted-fresh}
-use Rattle.demands.specs.Schedule.{AllWords, History, history}
+use Rattle.demands.specs.History.{AllWords, History, history}
 use Rattle.demands.proofs.Bridge.{after-call, run-decoded, replies-decoded, order-decoded, begunBy-decoded, finishedBy-decoded}
 
 pub history-decoded : (a : List ℕ) → Good a → (w : List Entry) → AllWords w →

@@ -24,7 +24,7 @@ use Rattle.store.specs.Layout.{size}
 use Rattle.store.specs.Area.{Bytes, wellFormed}
 use Rattle.store.specs.Calls.{format, Grown}
 use Rattle.demands.specs.Reached.{met, needs, Meeting, formed, reached, meet, meetings, Each, overlap, overtaking, overtaken, slipping, slipped}
-use Rattle.demands.specs.Schedule.{AllWords}
+use Rattle.demands.specs.History.{AllWords}
 use Rattle.demands.proofs.Bridge.{run-grown}
 
 pub needs-fault : map met needs ≡ map (λ x. record { lacking = FAULT; having = true }) needs

@@ -23,7 +23,7 @@ use Rattle.meaning.proofs.Base.Words.{either-way, clash}
 use Rattle.store.specs.Layout.{size}
 use Rattle.store.specs.Calls.{callArea}
 use Rattle.store.specs.Area.{encode, decode, wellFormed}
-use Rattle.demands.specs.Demand1.{FormatRefusals, BeginRefusals, StepRefusals, Refusals}
+use Rattle.demands.specs.RefusalTables.{FormatRefusals, BeginRefusals, StepRefusals, Refusals}
 
 -- ---- the tables of refusals
 

@@ -242,9 +242,9 @@ Stands r = (r ≡ idle) ⊎ (onLine r ≡ true)
 
 -- ---- which lock or owner guards which words
 
-abbrev pub Changes : Word → (ℕ → Type 0) → Type 0
-Changes Stay guard = Unit {0}
-Changes (Become w) guard = guard w
+abbrev pub Becomes : Word → (ℕ → Type 0) → Type 0
+Becomes Stay guard = Unit {0}
+Becomes (Become w) guard = guard w
 
 abbrev pub Puts : Update → (ℕ → ℕ → Type 0) → Type 0
 Puts Keep guard = Unit {0}
@@ -253,7 +253,7 @@ Puts (Put i w) guard = guard i w
 -- a lock or owner word: t takes it where it is free, or gives it up where it is t's; a lock is taken only by who is about to
 pub data Passes (about : Type 0) (t w w′ : ℕ) : Type 0 where
   takes : free w ≡ true → about → w′ ≡ by t → Passes about t w w′
-  gives : heldBy t w ≡ true → w′ ≡ none → Passes about t w w′
+  gives-up : heldBy t w ≡ true → w′ ≡ none → Passes about t w w′
 
 -- a map entry: the headers' owner with the number's lock
 pub record GuardsMap (s : Store) (t k : ℕ) : Type 0 where
@@ -276,8 +276,8 @@ pub record GuardsWear (s : Store) (t m : ℕ) : Type 0 where
 
 -- thread t with record r has in store s what guards each word that the effect changes
 pub record Guards (s : Store) (t : ℕ) (r : Thread) (e : Effect) : Type 0 where
-  pub lock : Changes (e .lock) (Passes (takesH r ≡ true) t (s .lock))
-  pub owner : Changes (e .owner) (Passes Unit t (s .owner))
+  pub lock : Becomes (e .lock) (Passes (takesH r ≡ true) t (s .lock))
+  pub owner : Becomes (e .owner) (Passes Unit t (s .owner))
   pub locks : Puts (e .locks) (λ k. Passes (takesLock r k ≡ true) t (s .locks k))
   pub own : Puts (e .own) (λ m. Passes Unit t (s .own m))
   pub map : Puts (e .map) (λ k w. GuardsMap s t k)

@@ -44,5 +44,5 @@ module _ (t n p d : ℕ) (limits : inLimits t n p d ≡ true) (w : List Entry) w
         asks = requests-begun t n p d limits w;
         answers = manager-answers;
         real-time =
-            λ v v′ whole u i u′ i′ finished unbegun. rw (← whole) (real-time t n p d limits v v′ u i u′ i′ finished unbegun);
+            λ v v′ split u i u′ i′ finished unbegun. rw (← split) (real-time t n p d limits v v′ u i u′ i′ finished unbegun);
       }

@@ -26,7 +26,7 @@ use Rattle.meaning.specs.Schedule.{run, Grown, formatted, called}
 use Rattle.meaning.proofs.Base.Words.{either-way, clash, and-left, none-held, held-by, held-below, naming-not-none}
 use Rattle.meaning.proofs.Invariant.{holdsH, holdsN, ownsHeaders, holdsLock, ownsBlock, Inv}
 use Rattle.meaning.proofs.Invariant.Keeping.{moves-inv}
-use Rattle.meaning.proofs.Invariant.Sharing.{limits-sizes}
+use Rattle.meaning.proofs.Invariant.Sharing.{limits-numbers-blocks}
 use Rattle.meaning.proofs.Lines.{Waits, for-H, for-N, Fine, facts-idle}
 use Rattle.meaning.proofs.Lines.EveryLine.{idle-is, fine}
 use Rattle.meaning.proofs.Progress.Called.{CallCases, stays, opens, goes, ends, call-cases}
@@ -35,7 +35,7 @@ use Rattle.meaning.proofs.Progress.Called.{CallCases, stays, opens, goe
 
 pub inv-fresh : (t n p d : ℕ) → inLimits t n p d ≡ true → Inv (fresh t n p d)
 inv-fresh t n p d l =
-    let sizes = limits-sizes t n p d l in
+    let sizes = limits-numbers-blocks t n p d l in
     record {
       limits = l;
       stands = λ v. inl refl;

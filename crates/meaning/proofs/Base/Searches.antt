@@ -71,7 +71,7 @@ crowded map header numbers blocks more below back full =
 -- what a search among the first k finds: the one, or nobody is there
 pub data Finds (eligible : ℕ → Bool) (k : ℕ) (one : ℕ → Type 0) (nobody : Type 0) : Type 0 where
   finds : (m : ℕ) → m < k → eligible m ≡ true → one m → Finds eligible k one nobody
-  lacks : ((m : ℕ) → m < k → eligible m ≡ false) → nobody → Finds eligible k one nobody
+  finds-nobody : ((m : ℕ) → m < k → eligible m ≡ false) → nobody → Finds eligible k one nobody
 
 -- one more at the end of those that are not eligible
 more : (eligible : ℕ → Bool) (k : ℕ) → ((m : ℕ) → m < k → eligible m ≡ false) → eligible k ≡ false →
@@ -84,20 +84,20 @@ abbrev pub Lowest : (ℕ → ℕ) → ℕ → Type 0
 Lowest header k = Finds (λ m. free (header m)) k (λ m. lowestFree header k ≡ m) (lowestFree header k ≡ k)
 
 pub lowest-finds : (header : ℕ → ℕ) (k : ℕ) → Lowest header k
-lowest-finds header zero = lacks (λ m b. absurd (omega arith)) refl
+lowest-finds header zero = finds-nobody (λ m b. absurd (omega arith)) refl
 lowest-finds header (suc k) = go (lowest-finds header k)
   where
     go : Lowest header k → Lowest header (suc k)
     go (finds m b f e) = finds m (omega arith) f (rw (e, lt-ltb m k b))
-    go (lacks all e) =
+    go (finds-nobody all e) =
         either-way (free (header k)) (λ f. finds k (omega arith) f (rw (e, le-ltb k k (omega arith), f)))
-        (λ f. lacks (more (λ m. free (header m)) k all f) (rw (e, le-ltb k k (omega arith), f)))
+        (λ f. finds-nobody (more (λ m. free (header m)) k all f) (rw (e, le-ltb k k (omega arith), f)))
 
 abbrev pub Best : (ℕ → Bool) → (ℕ → ℕ → Bool) → ℕ → Type 0
 Best eligible beats k = Finds eligible k (λ m. best eligible beats k ≡ At m) (best eligible beats k ≡ Nobody)
 
 pub best-finds : (eligible : ℕ → Bool) (beats : ℕ → ℕ → Bool) (k : ℕ) → Best eligible beats k
-best-finds eligible beats zero = lacks (λ m b. absurd (omega arith)) refl
+best-finds eligible beats zero = finds-nobody (λ m b. absurd (omega arith)) refl
 best-finds eligible beats (suc k) = go (best-finds eligible beats k)
   where
     go : Best eligible beats k → Best eligible beats (suc k)
@@ -105,5 +105,5 @@ best-finds eligible beats (suc k) = go (best-finds eligible beats k)
         either-way (eligible k)
         (λ x. either-way (beats k m) (λ w. finds k (omega arith) x (rw (e, x, w))) (λ w. finds m (omega arith) f (rw (e, x, w))))
         (λ x. finds m (omega arith) f (rw (e, x)))
-    go (lacks all e) =
-        either-way (eligible k) (λ x. finds k (omega arith) x (rw (e, x))) (λ x. lacks (more eligible k all x) (rw (e, x)))
+    go (finds-nobody all e) =
+        either-way (eligible k) (λ x. finds k (omega arith) x (rw (e, x))) (λ x. finds-nobody (more eligible k all x) (rw (e, x)))

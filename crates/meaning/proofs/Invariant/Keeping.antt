@@ -23,8 +23,8 @@ use Rattle.meaning.specs.Programs.{WRITE, LEVEL, lastLine}
 use Rattle.meaning.specs.Step.{become, put, apply}
 use Rattle.meaning.specs.Demands.{kept}
 use Rattle.meaning.proofs.Base.Words.{same, either-way, and-left, and-right, or-way, within-true, by-other, none-held, free-held, held-is, held-once, naming-named, upd-other, upd-each}
-use Rattle.meaning.proofs.Invariant.{takesH, takesN, takesLock, takes, gives, holdsH, holdsN, ownsHeaders, ownsP, ownsQ, n-unmapped, n-on-p, n-on-q, p-free, q-free, p-headed, q-headed, h-heads-p, chosen-now, c-of-p, q-has-c, c-of-n, If, ownsBlock, leadsAstray, Holds, Facts, Stands, Changes, Puts, Passes, GuardsMap, GuardsHeader, GuardsContent, GuardsWear, Guards, Agrees, Back, Astray, Inv}
-use Rattle.meaning.proofs.Manager.View.{keeps, leaves, promised}
+use Rattle.meaning.proofs.Invariant.{takesH, takesN, takesLock, takes, gives-up, holdsH, holdsN, ownsHeaders, ownsP, ownsQ, n-unmapped, n-on-p, n-on-q, p-free, q-free, p-headed, q-headed, h-heads-p, chosen-now, c-of-p, q-has-c, c-of-n, If, ownsBlock, leadsAstray, Holds, Facts, Stands, Becomes, Puts, Passes, GuardsMap, GuardsHeader, GuardsContent, GuardsWear, Guards, Agrees, Back, Astray, Inv}
+use Rattle.meaning.proofs.Manager.View.{status, leaves, promised}
 
 -- ---- a rule of the table, tested at every line
 
@@ -65,10 +65,10 @@ up a b all r st x = rw x at (everywhere (λ op line. not (a (standing op line)) 
 
 passes-other : {about : Type 0} (t v w w′ : ℕ) → (t ≡ v → ⊥) → Passes about t w w′ → heldBy v w′ ≡ heldBy v w
 passes-other t v w w′ apart (takes f _ e) = rw e (by-other t v apart ∙ sym (free-held v w f))
-passes-other t v w w′ apart (gives h e) = rw (e, held-is t w h) (none-held v ∙ sym (by-other t v apart))
+passes-other t v w w′ apart (gives-up h e) = rw (e, held-is t w h) (none-held v ∙ sym (by-other t v apart))
 
 pub word-kept : (about : Type 0) (t v : ℕ) → (t ≡ v → ⊥) → (c : Word) (w : ℕ) →
-    Changes c (Passes about t w) → heldBy v (become c w) ≡ heldBy v w
+    Becomes c (Passes about t w) → heldBy v (become c w) ≡ heldBy v w
 word-kept about t v apart Stay w x = refl
 word-kept about t v apart (Become w′) w x = passes-other t v w w′ apart x
 
@@ -102,9 +102,9 @@ q-owned r x = rw (x, same (r .q))
 -- ---- a step of t, seen by another thread v
 
 -- whether a number is mapped and what its block holds stays as it is where t doesn't hold the number's lock
-pub unheld-keeps : (s : Store) (t : ℕ) (r : Thread) (e : Effect) → Guards s t r e → (r′ : Thread) (k : ℕ) →
-    (heldBy t (s .locks k) ≡ true → ⊥) → keeps (apply s t r′ e) k ≡ keeps s k
-unheld-keeps s t r e G r′ k lacks =
+pub unheld-status : (s : Store) (t : ℕ) (r : Thread) (e : Effect) → Guards s t r e → (r′ : Thread) (k : ℕ) →
+    (heldBy t (s .locks k) ≡ true → ⊥) → status (apply s t r′ e) k ≡ status s k
+unheld-status s t r e G r′ k lacks =
     rw (put-kept (e .map) (s .map) (λ k w. GuardsMap s t k) (G .map) k (λ w g. lacks (g .locks)))
     (either-way (free (s .map k)) (λ f. rw f)
     (λ f. rw (
@@ -115,7 +115,7 @@ unheld-keeps s t r e G r′ k lacks =
 
 pub unheld-kept : (s : Store) (t : ℕ) (r : Thread) (e : Effect) → Guards s t r e → (r′ : Thread) (k : ℕ) →
     (heldBy t (s .locks k) ≡ true → ⊥) → kept (apply s t r′ e) k ≡ kept s k
-unheld-kept s t r e G r′ k lacks = ap (λ x. x .content) (unheld-keeps s t r e G r′ k lacks)
+unheld-kept s t r e G r′ k lacks = ap (λ x. x .content) (unheld-status s t r e G r′ k lacks)
 
 module _ (s : Store) (I : Inv s) (t : ℕ) (r : Thread) (e : Effect) (G : Guards s t r e) (v : ℕ) (apart : t ≡ v → ⊥) where
   -- t has no lock, owner or block that v has
@@ -216,8 +216,8 @@ pub record Moves (s : Store) (t : ℕ) (r r′ : Thread) (e : Effect) : Type 0 w
       (s .header m ≡ naming k → Back (s .map) m k (leadsAstray r m ≡ true)) →
       Back (put (e .map) (s .map)) m k (leadsAstray r′ m ≡ true)
   -- what will become of t's number stays as it is, but where t takes the number's lock: there it becomes what t's operation leaves
-  pub promise : promised r′ (keeps (apply s t r′ e) (r .n)) ≡
-      cond (takesN r) (leaves (r .op) (r .c) (keeps s (r .n))) (promised r (keeps s (r .n)))
+  pub promise : promised r′ (status (apply s t r′ e) (r .n)) ≡
+      cond (takesN r) (leaves (r .op) (r .c) (status s (r .n))) (promised r (status s (r .n)))
   pub same-n : If (holdsN r′) (r′ .n ≡ r .n)
   pub taken : If (takesN r) (holdsN r′ ≡ true)
   -- who changes a wear holds H afterwards too

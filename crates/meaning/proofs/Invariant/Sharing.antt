@@ -16,11 +16,11 @@ use Rattle.meaning.specs.Choosing.{lowestFree, toBlock, leastWorn, fromB
 use Rattle.meaning.proofs.Base.Words.{same, either-way, clash, and-left, and-right, or-way, within-true, free-held, held-once, alone-free, free-none, naming-once, naming-not-none}
 use Rattle.meaning.proofs.Invariant.{holdsH, holdsN, ownsHeaders, ownsP, ownsQ, n-on-p, n-on-q, p-free, q-free, p-headed, q-headed, p-astray, q-astray, If, leadsAstray, GuardsContent, Back, Astray, Inv}
 use Rattle.meaning.proofs.Invariant.Keeping.{up}
-use Rattle.meaning.proofs.Base.Searches.{crowded, finds, lacks, Lowest, lowest-finds, Best, best-finds}
+use Rattle.meaning.proofs.Base.Searches.{crowded, finds, finds-nobody, Lowest, lowest-finds, Best, best-finds}
 
 -- there are more blocks than numbers, and some number
-pub limits-sizes : (t n p d : ℕ) → inLimits t n p d ≡ true → (n < p) × (0 < n)
-limits-sizes t n p d l =
+pub limits-numbers-blocks : (t n p d : ℕ) → inLimits t n p d ≡ true → (n < p) × (0 < n)
+limits-numbers-blocks t n p d l =
     let three = and-left _ (within least mostDistance d) l in
     let two = and-left _ (within (n + 1) mostBlocks p) three in
     let blocks =
@@ -40,7 +40,7 @@ data Owned (s : Store) (v m : ℕ) : Type 0 where
 
 module _ (s : Store) (I : Inv s) where
   pub numbers-blocks : (s .numbers < s .blocks) × (0 < s .numbers)
-  numbers-blocks = limits-sizes (s .threads) (s .numbers) (s .blocks) (s .distance) (I .limits)
+  numbers-blocks = limits-numbers-blocks (s .threads) (s .numbers) (s .blocks) (s .distance) (I .limits)
 
   -- ---- blocks
 
@@ -151,7 +151,7 @@ module _ (s : Store) (I : Inv s) where
         go : Lowest (s .header) (s .blocks) →
             (lowestFree (s .header) (s .blocks) < s .blocks) × (s .header (lowestFree (s .header) (s .blocks)) ≡ none)
         go (finds m b f e) = rw e (b, free-none (s .header m) f)
-        go (lacks all _) = absurd (not-full all)
+        go (finds-nobody all _) = absurd (not-full all)
 
     pub to-found : (m : ℕ) × (toBlock (s .header) (s .wear) (s .blocks) ≡ At m) × (m < s .blocks) × (s .header m ≡ none)
     to-found = go (best-finds (λ k. free (s .header k)) (λ k m. ltb (s .wear m) (s .wear k)) (s .blocks))
@@ -159,7 +159,7 @@ module _ (s : Store) (I : Inv s) where
         go : Best (λ k. free (s .header k)) (λ k m. ltb (s .wear m) (s .wear k)) (s .blocks) →
             (m : ℕ) × (toBlock (s .header) (s .wear) (s .blocks) ≡ At m) × (m < s .blocks) × (s .header m ≡ none)
         go (finds m b f e) = (m, e, b, free-none (s .header m) f)
-        go (lacks all _) = absurd (not-full all)
+        go (finds-nobody all _) = absurd (not-full all)
 
   pub from-below : (to : ℕ) → to < s .blocks →
       fromBlock (s .wear) (s .distance) to (leastWorn (s .header) (s .wear) (s .blocks)) < s .blocks
@@ -169,4 +169,4 @@ module _ (s : Store) (I : Inv s) where
           fromBlock (s .wear) (s .distance) to (leastWorn (s .header) (s .wear) (s .blocks)) < s .blocks
       go (finds m b f e) =
           rw e (either-way (ltb (s .wear to) (s .wear m + s .distance)) (λ x. rw x below) (λ x. rw x b))
-      go (lacks all e) = rw e below
+      go (finds-nobody all e) = rw e below

@@ -18,10 +18,10 @@ use Rattle.meaning.proofs.Invariant.{Holds, onLine, Stands, Inv}
 use Rattle.meaning.proofs.Invariant.Keeping.{Moves}
 use Rattle.meaning.proofs.Invariant.Sharing.{numbers-blocks}
 use Rattle.meaning.proofs.Lines.{Fine, Line, From, _▸_, from-at, keeping}
-use Rattle.meaning.proofs.Lines.Write.{writes}
-use Rattle.meaning.proofs.Lines.Read.{reads}
-use Rattle.meaning.proofs.Lines.Unmap.{unmaps}
-use Rattle.meaning.proofs.Lines.Level.{levels}
+use Rattle.meaning.proofs.Lines.Write.{write-lines}
+use Rattle.meaning.proofs.Lines.Read.{read-lines}
+use Rattle.meaning.proofs.Lines.Unmap.{unmap-lines}
+use Rattle.meaning.proofs.Lines.Level.{level-lines}
 
 -- ---- idle or open
 
@@ -49,7 +49,7 @@ module _ (s : Store) (I : Inv s) (t : ℕ) where
       let line = within-true 1 (lastLine (r .op)) (r .line) (and-right (within WRITE LEVEL (r .op)) _ o) in
       let lines =
       from-at (λ op. From (Line s t op) 1 (lastLine op)) LEVEL WRITE
-      (writes s t ▸ reads s t ▸ unmaps s t ▸ levels s t ▸ tt) (r .op) (omega arith) (omega arith) in
+      (write-lines s t ▸ read-lines s t ▸ unmap-lines s t ▸ level-lines s t ▸ tt) (r .op) (omega arith) (omega arith) in
       from-at (Line s t (r .op)) (lastLine (r .op)) 1 lines (r .line) (omega arith) (omega arith)
       (r .n) (r .c) (r .p) (r .q) (r .h) (record { inv = I; is = refl; holds = I .holds t; facts = I .facts t })
 

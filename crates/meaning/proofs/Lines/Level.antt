@@ -13,7 +13,7 @@ use Rattle.meaning.specs.Programs.{LEVEL, actAt}
 use Rattle.meaning.specs.Step.{onContent, onMap, perform, apply}
 use Rattle.meaning.proofs.Base.Words.{either-way, same, naming-named, named-below, naming-not-free, naming-once, upd-same, upd-other}
 use Rattle.meaning.proofs.Invariant.Sharing.{owner-free, mapped-block-free, free-block-free, settled-owner, numbers-blocks, to-found, from-below, content-guarded}
-use Rattle.meaning.proofs.Lines.{for-H, for-N, Fine, at, Line, From, _▸_, n-held, p-held, q-held, second-taken, second-given, mapped-headed, mapped-freed, headed-apart, headed-agrees, freed-agrees, moved-agrees, moved-mapped, keeps-moved, facts-idle, keeping}
+use Rattle.meaning.proofs.Lines.{for-H, for-N, Fine, at, Line, From, _▸_, n-held, p-held, q-held, second-taken, second-given, mapped-headed, mapped-freed, headed-apart, headed-agrees, freed-agrees, moved-agrees, moved-mapped, status-moved, facts-idle, keeping}
 
 module _ (s : Store) (t : ℕ) where
   L1 : Line s t LEVEL 1
@@ -86,7 +86,7 @@ module _ (s : Store) (t : ℕ) where
       let copied = H .facts .copied ∙ sym (upd-other (s .content) q p c (λ e. H .facts .apart (sym e))) in
       let pasted = upd-same (s .content) q c in
       let pasting = apply s t (at LEVEL 12 n c p q h) (onContent q c) in
-      let left = keeps-moved s pasting n p p (H .facts .on-p) (H .facts .on-p) (sym copied ∙ H .facts .copied) in
+      let left = status-moved s pasting n p p (H .facts .on-p) (H .facts .on-p) (sym copied ∙ H .facts .copied) in
       rw (own, naming-not-free n (s .header q) (H .facts .headed-q)) (search (keeping, H .holds .locks, H .holds .own))
 
   L12 : Line s t LEVEL 12
@@ -99,7 +99,7 @@ module _ (s : Store) (t : ℕ) where
       (λ m on. eq-eqb p m (naming-once p m (sym (H .facts .on-p) ∙ on))) in
       let on = upd-same (s .map) n (naming q) in
       let moving = apply s t (at LEVEL 13 n c p q h) (onMap n (naming q)) in
-      let left = keeps-moved s moving n p q (H .facts .on-p) on (H .facts .pasted ∙ H .facts .copied) in
+      let left = status-moved s moving n p q (H .facts .on-p) on (H .facts .pasted ∙ H .facts .copied) in
       search (keeping, mapped, H .holds .locks, H .holds .own)
 
   L13 : Line s t LEVEL 13
@@ -134,5 +134,5 @@ module _ (s : Store) (t : ℕ) where
       let sizes = numbers-blocks s (H .inv) in
       rw (H .holds .lock) (search (keeping, facts-idle, H .holds .locks, H .holds .own))
 
-  pub levels : From (Line s t LEVEL) 1 18
-  levels = L1 ▸ L2 ▸ L3 ▸ L4 ▸ L5 ▸ L6 ▸ L7 ▸ L8 ▸ L9 ▸ L10 ▸ L11 ▸ L12 ▸ L13 ▸ L14 ▸ L15 ▸ L16 ▸ L17 ▸ L18 ▸ tt
+  pub level-lines : From (Line s t LEVEL) 1 18
+  level-lines = L1 ▸ L2 ▸ L3 ▸ L4 ▸ L5 ▸ L6 ▸ L7 ▸ L8 ▸ L9 ▸ L10 ▸ L11 ▸ L12 ▸ L13 ▸ L14 ▸ L15 ▸ L16 ▸ L17 ▸ L18 ▸ tt

@@ -48,5 +48,5 @@ module _ (s : Store) (t : ℕ) where
       ap (λ x. record { op = READ; value = x } ∷ []) (sym (H .facts .seen)) in
       rw lock (search (keeping, facts-idle, H .holds .locks, H .holds .own))
 
-  pub reads : From (Line s t READ) 1 6
-  reads = R1 ▸ R2 ▸ R3 ▸ R4 ▸ R5 ▸ R6 ▸ tt
+  pub read-lines : From (Line s t READ) 1 6
+  read-lines = R1 ▸ R2 ▸ R3 ▸ R4 ▸ R5 ▸ R6 ▸ tt

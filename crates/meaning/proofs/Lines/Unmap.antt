@@ -7,7 +7,7 @@ use Rattle.meaning.specs.Store.{Store}
 use Rattle.meaning.specs.Holding.{none, free}
 use Rattle.meaning.specs.Programs.{UNMAP}
 use Rattle.meaning.proofs.Base.Words.{either-way, free-none, naming-not-none, upd-same}
-use Rattle.meaning.proofs.Manager.View.{keeps}
+use Rattle.meaning.proofs.Manager.View.{status}
 use Rattle.meaning.proofs.Invariant.Sharing.{owner-free, mapped-block-free, numbers-blocks}
 use Rattle.meaning.proofs.Lines.{for-H, for-N, Line, From, _▸_, n-held, p-held, mapped-freed, freed-agrees, unmapped-agrees, unmapped-mapped, looked-up, facts-idle, keeping}
 
@@ -65,7 +65,7 @@ module _ (s : Store) (t : ℕ) where
   U10 : Line s t UNMAP 10
   U10 n c p q h H =
       let lock = n-held H refl in
-      let left : keeps s n ≡ record { mapped = false; content = 0 } = rw (H .facts .unmapped) in
+      let left : status s n ≡ record { mapped = false; content = 0 } = rw (H .facts .unmapped) in
       rw lock (search (keeping, H .holds .locks, H .holds .own))
 
   U11 : Line s t UNMAP 11
@@ -73,5 +73,5 @@ module _ (s : Store) (t : ℕ) where
       let sizes = numbers-blocks s (H .inv) in
       rw (H .holds .lock) (search (keeping, facts-idle, H .holds .locks, H .holds .own))
 
-  pub unmaps : From (Line s t UNMAP) 1 11
-  unmaps = U1 ▸ U2 ▸ U3 ▸ U4 ▸ U5 ▸ U6 ▸ U7 ▸ U8 ▸ U9 ▸ U10 ▸ U11 ▸ tt
+  pub unmap-lines : From (Line s t UNMAP) 1 11
+  unmap-lines = U1 ▸ U2 ▸ U3 ▸ U4 ▸ U5 ▸ U6 ▸ U7 ▸ U8 ▸ U9 ▸ U10 ▸ U11 ▸ tt

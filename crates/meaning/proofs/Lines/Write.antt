@@ -13,7 +13,7 @@ use Rattle.meaning.specs.Programs.{WRITE}
 use Rattle.meaning.specs.Step.{onContent, apply}
 use Rattle.meaning.proofs.Base.Words.{either-way, same, free-none, naming-not-free, naming-not-none, upd-same}
 use Rattle.meaning.proofs.Invariant.Sharing.{owner-free, mapped-block-free, free-block-free, numbers-blocks, lowest-free, content-guarded}
-use Rattle.meaning.proofs.Lines.{kept-on, keeps-on, at, for-H, for-N, Line, From, _▸_, n-held, p-held, mapped-headed, headed-agrees, moved-agrees, moved-mapped, looked-up, facts-idle, keeping}
+use Rattle.meaning.proofs.Lines.{kept-on, status-on, at, for-H, for-N, Line, From, _▸_, n-held, p-held, mapped-headed, headed-agrees, moved-agrees, moved-mapped, looked-up, facts-idle, keeping}
 
 module _ (s : Store) (t : ℕ) where
   W1 : Line s t WRITE 1
@@ -103,8 +103,8 @@ module _ (s : Store) (t : ℕ) where
   W16 n c p q h H =
       let lock = n-held H refl in
       let sizes = numbers-blocks s (H .inv) in
-      let left = keeps-on s n p c (H .facts .on-p) (sym (H .facts .seen)) in
+      let left = status-on s n p c (H .facts .on-p) (sym (H .facts .seen)) in
       rw lock (search (keeping, facts-idle, H .holds .locks, H .holds .own))
 
-  pub writes : From (Line s t WRITE) 1 16
-  writes = W1 ▸ W2 ▸ W3 ▸ W4 ▸ W5 ▸ W6 ▸ W7 ▸ W8 ▸ W9 ▸ W10 ▸ W11 ▸ W12 ▸ W13 ▸ W14 ▸ W15 ▸ W16 ▸ tt
+  pub write-lines : From (Line s t WRITE) 1 16
+  write-lines = W1 ▸ W2 ▸ W3 ▸ W4 ▸ W5 ▸ W6 ▸ W7 ▸ W8 ▸ W9 ▸ W10 ▸ W11 ▸ W12 ▸ W13 ▸ W14 ▸ W15 ▸ W16 ▸ tt

@@ -29,11 +29,11 @@ use Rattle.meaning.proofs.Invariant.Sharing.{fact}
 use Rattle.meaning.proofs.Lines.{GoesOn}
 use Rattle.meaning.proofs.Lines.EveryLine.{idle-is}
 use Rattle.meaning.proofs.Progress.{inv-fresh, inv-call, inv-run}
-use Rattle.meaning.proofs.Manager.View.{keeps, asked, leaves, future, owes, answered, due, owing}
+use Rattle.meaning.proofs.Manager.View.{status, asked, leaves, future, owes, answered, due, owing}
 use Rattle.meaning.proofs.Progress.Called.{CallCases, stays, opens, goes, ends, call-cases, replied}
 use Rattle.meaning.proofs.Base.Schedules.{placing-append, finishing-append}
 use Rattle.meaning.proofs.Manager.Laws.{operation-asked, level-obeys, obeyAll-append, managed-passes}
-use Rattle.meaning.proofs.Manager.Step.{future-free, future-held, future-step, takes-keeps, owing-others}
+use Rattle.meaning.proofs.Manager.Step.{future-free, future-held, future-step, takes-status, owing-others}
 
 -- the manager has of each number what the store says will become of it
 abbrev pub Matches : Store → Manager → Type 0
@@ -118,7 +118,7 @@ module _ (s : Store) (I : Inv s) (m : Manager) (M : Matches s m) where
       (λ y.
       let nothing-due : owes r ≡ false =
       either-way (owes r) (λ z. clash (up takesN (λ r. not (owes r)) refl r (I .stands t) y) (rw z)) (λ z. z) in
-      let content : ebmRead (r .n) m ≡ kept s (r .n) = ap (λ x. x .content) (M (r .n) ∙ takes-keeps s I t r′ e (g .moves) y) in
+      let content : ebmRead (r .n) m ≡ kept s (r .n) = ap (λ x. x .content) (M (r .n) ∙ takes-status s I t r′ e (g .moves) y) in
       rw (y, x, same t, nothing-due, content)) (λ y. rw (y, x)))))
 
   -- a thread that ends takes no lock
@@ -183,7 +183,7 @@ matches-run s I m M (e ∷ w) =
 
 -- ---- demand 2
 
-future-alone : (s : Store) (k : ℕ) → ((v : ℕ) → heldBy v (s .locks k) ≡ true → leavesAlone (s .thread v) ≡ true) → future s k ≡ keeps s k
+future-alone : (s : Store) (k : ℕ) → ((v : ℕ) → heldBy v (s .locks k) ≡ true → leavesAlone (s .thread v) ≡ true) → future s k ≡ status s k
 future-alone s k alone =
     either-way (free (s .locks k)) (λ f. future-free s k f)
     (λ f.
@@ -239,15 +239,15 @@ module _ (t n p d : ℕ) (limits : inLimits t n p d ≡ true) (w : List Entry) w
   manager-will = matches-run (fresh t n p d) (inv-fresh t n p d limits) initial (λ k. refl) w
 
   -- whether k is mapped, and what its block holds, is what the manager has of it: where only a reader or a leveller may have k's lock
-  pub manager-keeps : (k : ℕ) →
+  pub manager-status : (k : ℕ) →
       ((v : ℕ) → heldBy v (run callStore (fresh t n p d) w .locks k) ≡ true →
       leavesAlone (run callStore (fresh t n p d) w .thread v) ≡ true) →
-      keeps (run callStore (fresh t n p d) w) k ≡ asked k (obeyAll initial (order callStore (λ s. s) (fresh t n p d) w))
-  manager-keeps k alone = sym (manager-will k ∙ future-alone (run callStore (fresh t n p d) w) k alone)
+      status (run callStore (fresh t n p d) w) k ≡ asked k (obeyAll initial (order callStore (λ s. s) (fresh t n p d) w))
+  manager-status k alone = sym (manager-will k ∙ future-alone (run callStore (fresh t n p d) w) k alone)
 
   -- so at rest, where all threads are idle, of every number
-  pub manager-keeps-rest : ((v : ℕ) → isIdle (run callStore (fresh t n p d) w .thread v) ≡ true) → (k : ℕ) →
-      keeps (run callStore (fresh t n p d) w) k ≡ asked k (obeyAll initial (order callStore (λ s. s) (fresh t n p d) w))
-  manager-keeps-rest rest k =
+  pub manager-status-rest : ((v : ℕ) → isIdle (run callStore (fresh t n p d) w .thread v) ≡ true) → (k : ℕ) →
+      status (run callStore (fresh t n p d) w) k ≡ asked k (obeyAll initial (order callStore (λ s. s) (fresh t n p d) w))
+  manager-status-rest rest k =
       let I = inv-run (fresh t n p d) (inv-fresh t n p d limits) w in
-      manager-keeps k (λ v h. clash h (I .holds v .locks k ∙ rw (idle-is _ (I .stands v) (rest v))))
+      manager-status k (λ v h. clash h (I .holds v .locks k ∙ rw (idle-is _ (I .stands v) (rest v))))

@@ -96,7 +96,7 @@ record LastChange (k : ℕ) (l : List Operation) : Type 0 where
   before : List Operation
   last : Operation
   since : List Operation
-  whole : l ≡ before ++ (last ∷ since)
+  split : l ≡ before ++ (last ∷ since)
   is : changes k last ≡ true
   rest : Without (changes k) since
 
@@ -107,13 +107,13 @@ last-change k (o ∷ l) = go (last-change k l)
     go : Without (changes k) l ⊎ LastChange k l → Without (changes k) (o ∷ l) ⊎ LastChange k (o ∷ l)
     go (inl w) =
         either-way (changes k o)
-        (λ x. inr (record { before = []; last = o; since = l; whole = refl; is = x; rest = w })) (λ x. inl (x, w))
+        (λ x. inr (record { before = []; last = o; since = l; split = refl; is = x; rest = w })) (λ x. inl (x, w))
     go (inr c) =
         inr (record {
           before = o ∷ c .before;
           last = c .last;
           since = c .since;
-          whole = ap (λ r. o ∷ r) (c .whole);
+          split = ap (λ r. o ∷ r) (c .split);
           is = c .is;
           rest = c .rest;
         })
@@ -137,13 +137,13 @@ reads-give k l = go (last-change k l)
         let o = c .last in
         let m = obeyAll initial (c .before) in
         let e : ebmRead k (obeyAll initial l) ≡ cond (eqb (o .op) WRITE) (o .word) empty =
-        ap (λ x. ebmRead k (obeyAll initial x)) (c .whole) ∙ ap (ebmRead k) (obeyAll-append initial (c .before) (o ∷ c .since))
+        ap (λ x. ebmRead k (obeyAll initial x)) (c .split) ∙ ap (ebmRead k) (obeyAll-append initial (c .before) (o ∷ c .since))
         ∙ reads-unchanged k (c .since) (obey o m) (c .rest) ∙ change-leaves k o m (c .is) in
         let n : eqb (o .number) k ≡ true =
         and-right (not (eqb (o .op) READ)) (eqb (o .number) k) (and-right (not (eqb (o .op) LEVEL)) _ (c .is)) in
         subst (Gives k l) (sym e)
-        (either-way (eqb (o .op) WRITE) (λ x. rw x (last-write (c .before) o (c .since) (c .whole) (rw (x, n)) (c .rest)))
-        (λ x. rw x (last-unmap (c .before) o (c .since) (c .whole) (c .is) (rw x) (c .rest))))
+        (either-way (eqb (o .op) WRITE) (λ x. rw x (last-write (c .before) o (c .since) (c .split) (rw (x, n)) (c .rest)))
+        (λ x. rw x (last-unmap (c .before) o (c .since) (c .split) (c .is) (rw x) (c .rest))))
 
 -- what the manager answers to a read is what it reads there
 managed-append : (m : Manager) (u : ℕ) (l l′ : List Operation) → managed m u (l ++ l′) ≡ managed m u l ++ managed (obeyAll m l) u l′
@@ -207,7 +207,7 @@ module _ (t n p d : ℕ) (limits : inLimits t n p d ≡ true) where
 
   -- and of all operations, levellings too
   pub in-real-time : (w : List Entry) → InRealTime callStore (λ s. s) (fresh t n p d) w
-  in-real-time w v v′ whole u i u′ i′ finished unbegun =
+  in-real-time w v v′ split u i u′ i′ finished unbegun =
       let s = fresh t n p d in
       let l = order callStore (λ s. s) s v in
       let l′ = order callStore (λ s. s) (run callStore s v) v′ in
@@ -220,7 +220,7 @@ module _ (t n p d : ℕ) (limits : inLimits t n p d ≡ true) where
       ap length (each-once t n p d limits v u′ .begun-once) ∙ length-append (ofThread u′ l) (pending u′ (run callStore s v)) in
       let x = place-first (byThread u) l l′ i (omega arith) in
       let y = place-second (byThread u′) l l′ i′ (omega arith) in
-      rw (← whole) (rw (real-time-parts v v′) (omega arith))
+      rw (← split) (rw (real-time-parts v v′) (omega arith))
 
 -- ---- what a read that has finished gave
 

@@ -15,17 +15,17 @@ use Rattle.meaning.specs.Programs.{READ}
 use Rattle.meaning.specs.Step.{apply}
 use Rattle.meaning.proofs.Base.Words.{same, either-way, clash, held-is, held-not-free, held-once, held-by, held-same, turned-free, upd-same, upd-other}
 use Rattle.meaning.proofs.Invariant.{takesN, takesLock, holdsN, holdsLock, Inv}
-use Rattle.meaning.proofs.Invariant.Keeping.{Moves, up, entry-kept, unheld-keeps, unheld-kept}
+use Rattle.meaning.proofs.Invariant.Keeping.{Moves, up, entry-kept, unheld-status, unheld-kept}
 use Rattle.meaning.proofs.Invariant.Sharing.{fact}
-use Rattle.meaning.proofs.Manager.View.{keeps, leaves, promised, future, owes, owing}
+use Rattle.meaning.proofs.Manager.View.{status, leaves, promised, future, owes, owing}
 
 -- ---- what will become of a number, where its lock is free and where it is held
 
-pub future-free : (s : Store) (k : ℕ) → free (s .locks k) ≡ true → future s k ≡ keeps s k
+pub future-free : (s : Store) (k : ℕ) → free (s .locks k) ≡ true → future s k ≡ status s k
 future-free s k f = rw f
 
 pub future-held : (s : Store) (k v : ℕ) → heldBy v (s .locks k) ≡ true →
-    future s k ≡ leaves (s .thread v .op) (s .thread v .c) (keeps s k)
+    future s k ≡ leaves (s .thread v .op) (s .thread v .c) (status s k)
 future-held s k v h =
     let is : named (s .locks k) ≡ v = let x = held-is v (s .locks k) h in omega arith in
     rw (held-not-free v (s .locks k) h, is)
@@ -85,8 +85,8 @@ module _ (s : Store) (I : Inv s) (t : ℕ) (r′ : Thread) (e : Effect) (M : Mov
           (λ x. rw (← eqb-true t v x) (held-after k ∙ after ∙ sym (held-before k ∙ before)))
           (λ x. others-hold v k (eqb-false t v x)))
 
-      stays : keeps s′ k ≡ keeps s k
-      stays = unheld-keeps s t r e (M .guards) r′ k (λ h. clash h (held-before k ∙ before))
+      stays : status s′ k ≡ status s k
+      stays = unheld-status s t r e (M .guards) r′ k (λ h. clash h (held-before k ∙ before))
 
   -- ---- t's own number
 
@@ -96,18 +96,18 @@ module _ (s : Store) (I : Inv s) (t : ℕ) (r′ : Thread) (e : Effect) (M : Mov
       either-way (holdsN r) (λ y. clash (up takesN (λ r. not (holdsN r)) refl r (I .stands t) x) (rw y)) (λ y. y)
 
   -- so where it takes a number's lock, the number will be as it is
-  pub takes-keeps : takesN (s .thread t) ≡ true → future s (s .thread t .n) ≡ keeps s (s .thread t .n)
-  takes-keeps x = future-free s n (own-free (takes-lacks x) (fact (takesN r) _ x (M .taken)))
+  pub takes-status : takesN (s .thread t) ≡ true → future s (s .thread t .n) ≡ status s (s .thread t .n)
+  takes-status x = future-free s n (own-free (takes-lacks x) (fact (takesN r) _ x (M .taken)))
 
-  after-held : holdsN r′ ≡ true → future s′ n ≡ promised r′ (keeps s′ n)
+  after-held : holdsN r′ ≡ true → future s′ n ≡ promised r′ (status s′ n)
   after-held y = future-held s′ n t (own-taken y) ∙ rw (upd-same (s .thread) t r′, y)
 
   future-own : future s′ n ≡ cond (takesN r) (leaves (r .op) (r .c) (future s n)) (future s n)
   future-own =
-      either-way (takesN r) (λ x. rw (x, takes-keeps x) (after-held (fact (takesN r) _ x (M .taken)) ∙ M .promise ∙ rw x))
+      either-way (takesN r) (λ x. rw (x, takes-status x) (after-held (fact (takesN r) _ x (M .taken)) ∙ M .promise ∙ rw x))
       (λ x. rw x (either-way (holdsN r)
       (λ y.
-      let before : future s n ≡ promised r (keeps s n) = future-held s n t (own-held y) ∙ rw y in
+      let before : future s n ≡ promised r (status s n) = future-held s n t (own-held y) ∙ rw y in
       either-way (holdsN r′) (λ z. after-held z ∙ M .promise ∙ rw x (sym before))
       (λ z. future-free s′ n (own-freed y z) ∙ rw z at (M .promise) ∙ rw x (sym before)))
       (λ y. either-way (holdsN r′) (λ z. after-held z ∙ M .promise ∙ rw x (rw y (sym (future-free s n (own-free y z)))))

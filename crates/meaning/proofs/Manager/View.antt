@@ -17,33 +17,33 @@ use Rattle.meaning.specs.Demands.{isMapped, kept}
 use Rattle.meaning.proofs.Invariant.{_–_, never, row, holdsN, takesN}
 
 -- of a number: whether it is mapped, and what it holds, which is empty where it is not
-pub record Kept : Type 0 where
+pub record Status : Type 0 where
   pub mapped : Bool
   pub content : ℕ
 
 -- as a store has it, and as the manager does
-abbrev pub keeps : Store → ℕ → Kept
-keeps s k = record { mapped = isMapped s k; content = kept s k }
+abbrev pub status : Store → ℕ → Status
+status s k = record { mapped = isMapped s k; content = kept s k }
 
-abbrev pub asked : ℕ → Manager → Kept
+abbrev pub asked : ℕ → Manager → Status
 asked k m = record { mapped = m .mapped k; content = ebmRead k m }
 
 -- what an operation with word c leaves of its number, of which it found x
-abbrev pub leaves : ℕ → ℕ → Kept → Kept
+abbrev pub leaves : ℕ → ℕ → Status → Status
 leaves op c x =
     cond (eqb op LEVEL) x
     (cond (eqb op WRITE) (record { mapped = true; content = c })
     (cond (eqb op READ) x (record { mapped = false; content = empty })))
 
 -- what will become of number n of record r, if x is so now
-abbrev pub promised : Thread → Kept → Kept
+abbrev pub promised : Thread → Status → Status
 promised r x = cond (holdsN r) (leaves (r .op) (r .c) x) x
 
 -- what will become of number k: the thread that holds its lock, if any, decides
-abbrev pub future : Store → ℕ → Kept
+abbrev pub future : Store → ℕ → Status
 future s k =
-    cond (free (s .locks k)) (keeps s k)
-    (leaves (s .thread (named (s .locks k)) .op) (s .thread (named (s .locks k)) .c) (keeps s k))
+    cond (free (s .locks k)) (status s k)
+    (leaves (s .thread (named (s .locks k)) .op) (s .thread (named (s .locks k)) .c) (status s k))
 
 -- ---- an operation of the manager's: write, read, unmap, and no levelling
 

@@ -25,7 +25,7 @@ use Rattle.meaning.specs.Step.{block, perform, verdict, become, put, app
 use Rattle.meaning.specs.Call.{Reply, step, callStore, isIdle}
 use Rattle.meaning.specs.Schedule.{Answered, placed, run, finishedBy, steps, longest}
 use Rattle.meaning.proofs.Base.Words.{same, either-way, by-held, held-is, none-held, upd-same, upd-other}
-use Rattle.meaning.proofs.Invariant.{holdsH, holdsLock, ownsHeaders, ownsBlock, takesH, takesLock, Passes, takes, gives, Changes, Puts, Guards, Inv}
+use Rattle.meaning.proofs.Invariant.{holdsH, holdsLock, ownsHeaders, ownsBlock, takesH, takesLock, Passes, takes, gives-up, Becomes, Puts, Guards, Inv}
 use Rattle.meaning.proofs.Invariant.Keeping.{everywhere}
 use Rattle.meaning.proofs.Lines.EveryLine.{idle-is}
 use Rattle.meaning.proofs.Progress.{inv-call, no-fault}
@@ -102,9 +102,9 @@ module _ (s : Store) (t : ℕ) (r : Thread) where
 
 passes-mine : {about : Type 0} (t w w′ : ℕ) → Passes about t w w′ → w′ ≡ mine t w′
 passes-mine t w w′ (takes _ _ e) = rw (e, by-held t)
-passes-mine t w w′ (gives _ e) = rw (e, none-held t)
+passes-mine t w w′ (gives-up _ e) = rw (e, none-held t)
 
-word-alone : (about : Type 0) (t : ℕ) (c : Word) (w : ℕ) → Changes c (Passes about t w) → become c (mine t w) ≡ mine t (become c w)
+word-alone : (about : Type 0) (t : ℕ) (c : Word) (w : ℕ) → Becomes c (Passes about t w) → become c (mine t w) ≡ mine t (become c w)
 word-alone about t Stay w x = refl
 word-alone about t (Become w′) w x = passes-mine t w w′ x
 
@@ -253,9 +253,9 @@ alone-idle s I t is =
 -- ---- a thread that has its place runs to its end
 
 -- t is at rest, or has its place and no more lines before it than k
-pub data Within (t k : ℕ) (s : Store) : Type 0 where
-  resting : isIdle (s .thread t) ≡ true → Within t k s
-  going : placed s (s .thread t) ≡ true → longest < s .thread t .line + k → Within t k s
+pub data EndsWithin (t k : ℕ) (s : Store) : Type 0 where
+  resting : isIdle (s .thread t) ≡ true → EndsWithin t k s
+  going : placed s (s .thread t) ≡ true → longest < s .thread t .line + k → EndsWithin t k s
 
 -- nobody but t has a place
 abbrev pub Nobody-but : ℕ → Store → Type 0
@@ -295,7 +295,7 @@ step-settles k s I t has S =
 
 -- after its step it is at rest, or has a line less before it
 next-within : (k : ℕ) (s : Store) (t : ℕ) → placed s (s .thread t) ≡ true → longest < s .thread t .line + suc k → (g : Going s t) →
-    Came s t (g .number) (g .becomes) (g .effect) → Within t k (left-by s t g)
+    Came s t (g .number) (g .becomes) (g .effect) → EndsWithin t k (left-by s t g)
 next-within k s t has b g (went _ w) =
     going (rw (upd-same (s .thread) t (g .becomes)) (w .place ∙ rw has))
     (rw (upd-same (s .thread) t (g .becomes)) (let up = w .up in omega arith))
@@ -306,7 +306,7 @@ next-nobody s I t g nobody v apart =
     rw (upd-other (s .thread) t v (g .becomes) apart)
     (placed-kept s I t (g .becomes) (g .effect) (going-moves s t I g) v apart ∙ nobody v apart)
 
-pub placed-settles : (k : ℕ) (s : Store) → Inv s → (t : ℕ) → Nobody-but t s → Within t k s →
+pub placed-settles : (k : ℕ) (s : Store) → Inv s → (t : ℕ) → Nobody-but t s → EndsWithin t k s →
     SettlesTo s (ends-as k t (alone t s)) (ends-with k t (alone t s))
 placed-settles zero s I t nobody (resting x) = idle-settles zero s I t nobody x
 placed-settles zero s I t nobody (going has b) = absurd (let e = lines-end s I t in omega arith)
@@ -316,4 +316,4 @@ placed-settles (suc k) s I t nobody (going has b) =
     let to : left-by s t g ≡ stepped s t = sym (stepped-is s t g) in
     step-settles k s I t has (placed-settles k (stepped s t) (inv-call s I (step t)) t
     (subst (Nobody-but t) to (next-nobody s I t g nobody))
-    (subst (Within t k) to (next-within k s t has b g (going-came s I t g))))
+    (subst (EndsWithin t k) to (next-within k s t has b g (going-came s I t g))))

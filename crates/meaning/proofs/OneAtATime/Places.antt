@@ -30,7 +30,7 @@ use Rattle.meaning.proofs.Lines.EveryLine.{fine}
 use Rattle.meaning.proofs.Progress.{up-busy}
 use Rattle.meaning.proofs.EitherOrder.{Goes, goes, ends, Going, told-going, goes-unblocked}
 use Rattle.meaning.proofs.OneAtATime.Shapes.{Shape, shape, Quiet, Onto, Lands, lands}
-use Rattle.meaning.proofs.Base.Searches.{Best, best-finds, finds, lacks}
+use Rattle.meaning.proofs.Base.Searches.{Best, best-finds, finds, finds-nobody}
 
 -- ---- what is said
 
@@ -162,7 +162,7 @@ chosen-moves s p q to from empty =
     go apart (finds m b f e) =
         either-way (ltb (s .wear q) (s .wear m + s .distance)) (λ x. absurd (apart (sym (rw (e, x) at from))))
         (λ x. subst (λ (k : ℕ). not (free (s .header k)) ≡ true) (rw (e, x) at from) f)
-    go apart (lacks all e) = absurd (apart (sym (rw e at from)))
+    go apart (finds-nobody all e) = absurd (apart (sym (rw e at from)))
 
 module _ (s : Store) (I : Inv s) (t : ℕ) where
   branch-moves : branches (s .thread t .op) (s .thread t .line) ≡ true → movesNow s ≡ not (free (s .thread t .h))

@@ -42,8 +42,8 @@ waits = record { ends? = false; waits? = true; quiet? = true; keepsN = true; kee
 abbrev pub stops : Shape
 stops = record { ends? = true; waits? = false; quiet? = true; keepsN = true; keepsC = true; jump = λ line. line + 1 }
 
-abbrev pub writes : Shape
-writes = record { ends? = false; waits? = false; quiet? = false; keepsN = true; keepsC = true; jump = λ line. line + 1 }
+abbrev pub alters : Shape
+alters = record { ends? = false; waits? = false; quiet? = false; keepsN = true; keepsC = true; jump = λ line. line + 1 }
 
 abbrev pub reads : Shape
 reads = record { ends? = false; waits? = false; quiet? = true; keepsN = true; keepsC = false; jump = λ line. line + 1 }
@@ -76,14 +76,14 @@ shape (GoIfFree l) = names l
 shape PickFree = onwards
 shape Choose = onwards
 shape ReadHeader = onwards
-shape WriteHeaderN = writes
-shape WriteHeaderH = writes
-shape FreeHeader = writes
-shape EmptyContent = writes
+shape WriteHeaderN = alters
+shape WriteHeaderH = alters
+shape FreeHeader = alters
+shape EmptyContent = alters
 shape ReadContent = reads
-shape (WriteContent b) = writes
-shape (MapTo b) = writes
-shape Unmap = writes
+shape (WriteContent b) = alters
+shape (MapTo b) = alters
+shape Unmap = alters
 
 -- an effect on locks and owners alone
 pub record Quiet (e : Effect) : Type 0 where

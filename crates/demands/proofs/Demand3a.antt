@@ -24,9 +24,9 @@ use Rattle.meaning.proofs.EitherOrder.{sameTake, either-order}
 use Rattle.store.specs.Area.{decode}
 use Rattle.store.specs.Calls.{stepArea, Grown}
 use Rattle.store.proofs.Range.{Good, decode-injective, good-ranged}
-use Rattle.demands.specs.Demand1.{CanStep}
-use Rattle.demands.specs.EitherOrder.{SameLock, both-H, both-N, EitherOrder}
-use Rattle.demands.proofs.Bridge.{Matches, after-call, grown-good, grown-inv}
+use Rattle.demands.specs.RefusalTables.{CanStep}
+use Rattle.demands.specs.SameLock.{SameLock, both-H, both-N, EitherOrder}
+use Rattle.demands.proofs.Bridge.{SameReply, after-call, grown-good, grown-inv}
 use Rattle.demands.proofs.Demand1.{refusals, number-decoded}
 
 -- ---- the rows of the invariant's table are these acts
@@ -79,10 +79,10 @@ can-decoded a g t c =
 
 -- u after t: the bytes match the stores
 after-both : (a : List ℕ) → Good a → (t u : ℕ) → t ≤ mostWord → u ≤ mostWord →
-    Matches (stepArea (stepArea a t .after) u) (callStore (callStore (decode a) (step t) .after) (step u))
+    SameReply (stepArea (stepArea a t .after) u) (callStore (callStore (decode a) (step t) .after) (step u))
 after-both a g t u wt wu =
     let m = after-call a g (step t) wt in
-    subst (λ (s : Store). Matches (stepArea (stepArea a t .after) u) (callStore s (step u))) (m .decoded)
+    subst (λ (s : Store). SameReply (stepArea (stepArea a t .after) u) (callStore s (step u))) (m .decoded)
     (after-call (stepArea a t .after) (m .good) (step u) wu)
 
 pub grown-either-order : (a : List ℕ) → Grown a → (t u : ℕ) → (t ≡ u → ⊥) → CanStep a t → CanStep a u →

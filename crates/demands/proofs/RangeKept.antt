@@ -31,11 +31,11 @@ use Rattle.meaning.specs.Step.{block, nothing, worn, touches, heads, choosing, 
 use Rattle.meaning.specs.Call.{Outcome, refused, left, isIdle, storedN, storedC, begun, told, Entry, begin, step, calling}
 use Rattle.meaning.specs.Schedule.{Words}
 use Rattle.meaning.proofs.Base.Words.{clash, and-left, and-right, within-true, either-way, upd-each, named-below}
-use Rattle.meaning.proofs.Invariant.{Changes, Puts, Stands}
+use Rattle.meaning.proofs.Invariant.{Becomes, Puts, Stands}
 use Rattle.meaning.proofs.Invariant.Keeping.{everyLine, everywhere}
 use Rattle.meaning.proofs.Base.Schedules.{by-begin, by-step}
 use Rattle.meaning.proofs.Lines.{_▸_, from-at}
-use Rattle.meaning.proofs.Base.Searches.{finds, lacks, Best, best-finds}
+use Rattle.meaning.proofs.Base.Searches.{finds, finds-nobody, Best, best-finds}
 use Rattle.store.specs.Area.{word}
 use Rattle.store.proofs.Sound.{Working, SoundThread}
 use Rattle.store.proofs.Range.{Cell, Seat, Ranged}
@@ -43,11 +43,11 @@ use Rattle.store.proofs.Range.{Cell, Seat, Ranged}
 -- ---- a record and an effect that keep it
 
 -- the next record of an open thread, and what the effect puts, are in their bounds
-pub record Keeps (s : Store) (r : Thread) (e : Effect) : Type 0 where
+pub record KeepsRange (s : Store) (r : Thread) (e : Effect) : Type 0 where
   pub becomes : SoundThread (s .numbers) (s .blocks) r
   pub c : r .c ≤ mostWord
-  pub lock : Changes (e .lock) (λ w. w ≤ s .threads)
-  pub owner : Changes (e .owner) (λ w. w ≤ s .threads)
+  pub lock : Becomes (e .lock) (λ w. w ≤ s .threads)
+  pub owner : Becomes (e .owner) (λ w. w ≤ s .threads)
   pub map : Puts (e .map) (λ k w. (k < s .numbers) × (w ≤ s .blocks))
   pub locks : Puts (e .locks) (λ k w. (k < s .numbers) × (w ≤ s .threads))
   pub header : Puts (e .header) (λ m w. (m < s .blocks) × (w ≤ s .numbers))
@@ -55,7 +55,7 @@ pub record Keeps (s : Store) (r : Thread) (e : Effect) : Type 0 where
   pub wear : Puts (e .wear) (λ m w. (m < s .blocks) × (w ≤ mostWord))
   pub own : Puts (e .own) (λ m w. (m < s .blocks) × (w ≤ s .threads))
 
-become-low : (c : Word) (w bound : ℕ) → Changes c (λ w. w ≤ bound) → w ≤ bound → become c w ≤ bound
+become-low : (c : Word) (w bound : ℕ) → Becomes c (λ w. w ≤ bound) → w ≤ bound → become c w ≤ bound
 become-low Stay w bound x low = low
 become-low (Become w′) w bound x low = x
 
@@ -65,7 +65,7 @@ put-cell size bound Keep f x all = all
 put-cell size bound (Put i w) f x all =
     upd-each (Cell size bound) f i w (record { low = λ _. x .1; past = λ h. absurd (omega arith) }) (λ k _. all k)
 
-pub apply-ranged : (s : Store) → Ranged s → (t : ℕ) → t < s .threads → (r : Thread) (e : Effect) → Keeps s r e →
+pub apply-ranged : (s : Store) → Ranged s → (t : ℕ) → t < s .threads → (r : Thread) (e : Effect) → KeepsRange s r e →
     Ranged (apply s t r e)
 apply-ranged s R t below r e K =
     record {
@@ -121,8 +121,8 @@ stays-everywhere = refl
 abbrev Safe : Store → Verdict → Type 0
 Safe s Blocked = Unit {0}
 Safe s Fault = Unit {0}
-Safe s (Go r e) = Keeps s r e
-Safe s (Done answer e) = Keeps s idle e
+Safe s (Go r e) = KeepsRange s r e
+Safe s (Done answer e) = KeepsRange s idle e
 
 -- a block that a search finds is one of those that it goes over
 abbrev Among : ℕ → Found → Type 0
@@ -134,7 +134,7 @@ best-low eligible beats k = go (best-finds eligible beats k)
   where
     go : Best eligible beats k → Among k (best eligible beats k)
     go (finds m b _ e) = rw e b
-    go (lacks _ e) = rw e tt
+    go (finds-nobody _ e) = rw e tt
 
 worn-word : (w : ℕ) → w ≤ mostWord → worn w ≤ mostWord
 worn-word w low = either-way (ltb w mostWord) (λ x. let y = ltb-true w mostWord x in rw x (omega arith)) (λ x. rw x low)
@@ -245,9 +245,9 @@ module _ (s : Store) (R : Ranged s) (t : ℕ) (below : t < s .threads) (r : Thre
 -- ---- a call keeps it
 
 -- what an outcome leaves is in range
-abbrev pub Leaves : Outcome → Type 0
-Leaves (refused number) = Unit {0}
-Leaves (left number value s) = Ranged s
+abbrev pub LeavesRanged : Outcome → Type 0
+LeavesRanged (refused number) = Unit {0}
+LeavesRanged (left number value s) = Ranged s
 
 -- an operation has a line
 some-line : (op : ℕ) → WRITE ≤ op → op ≤ LEVEL → 1 ≤ lastLine op
@@ -272,13 +272,13 @@ module _ (s : Store) (R : Ranged s) (t : ℕ) (below : t < s .threads) where
       rw (le-leb 1 (r .line) (w .line .0)) (le-leb (r .line) (lastLine (r .op)) (w .line .1)) in
       inr (rw op line)
 
-  told-ranged : (v : Verdict) → Safe s v → Leaves (told s t v)
+  told-ranged : (v : Verdict) → Safe s v → LeavesRanged (told s t v)
   told-ranged Blocked f = tt
   told-ranged Fault f = tt
   told-ranged (Go r e) f = apply-ranged s R t below r e f
   told-ranged (Done answer e) f = apply-ranged s R t below idle e f
 
-  step-ranged : isIdle (s .thread t) ≡ false → Leaves (told s t (verdict s t))
+  step-ranged : isIdle (s .thread t) ≡ false → LeavesRanged (told s t (verdict s t))
   step-ranged busy =
       let r = s .thread t in
       told-ranged (verdict s t)
@@ -305,7 +305,7 @@ module _ (s : Store) (R : Ranged s) (t : ℕ) (below : t < s .threads) where
       } in
       apply-ranged s R t below (begun op n c) nothing (search (arith, inr))
 
-pub calling-ranged : (s : Store) → Ranged s → (e : Entry) → Words e → Leaves (calling s e)
+pub calling-ranged : (s : Store) → Ranged s → (e : Entry) → Words e → LeavesRanged (calling s e)
 calling-ranged s R (begin t op n c) w =
-    by-begin Leaves s t op n c (λ _ _. tt) (λ b _ y z. begin-ranged s R t b op n c (w .3) y z)
-calling-ranged s R (step t) w = by-step Leaves s t (λ _ _. tt) (λ b x. step-ranged s R t b x)
+    by-begin LeavesRanged s t op n c (λ _ _. tt) (λ b _ y z. begin-ranged s R t b op n c (w .3) y z)
+calling-ranged s R (step t) w = by-step LeavesRanged s t (λ _ _. tt) (λ b x. step-ranged s R t b x)

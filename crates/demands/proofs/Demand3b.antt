@@ -1,5 +1,5 @@
 -- DEMAND 3, second half, over areas of bytes: of an area that a format left which gave WENT, and of every schedule of words. (The first
--- half is EitherOrder.)
+-- half is Demand3a.)
 --  * area-one-at-a-time: where all threads are idle after the schedule, the bytes are those that the operations leave which are run whole,
 --    one after the other, in the order of their last locks; and each thread's operations have answered the same.
 --  * area-answers-so-far: before that, finished or not, what a thread has finished with are the first of its answers in that run, and at
@@ -20,8 +20,8 @@ use Rattle.meaning.proofs.OneAtATime.EachOnce.{each-once}
 use Rattle.store.specs.Area.{decode}
 use Rattle.store.specs.Calls.{callArea, Formatted}
 use Rattle.store.proofs.Range.{Good, decode-injective, formatted-good, formatted-fresh}
-use Rattle.demands.specs.Demand1.{rests}
-use Rattle.demands.specs.Schedule.{AllWords}
+use Rattle.demands.specs.RefusalTables.{rests}
+use Rattle.demands.specs.History.{AllWords}
 use Rattle.demands.proofs.Bridge.{run-good, run-decoded, order-decoded, finishedBy-decoded}
 use Rattle.demands.proofs.History.{areas-follow, serial-words}
 

@@ -1,5 +1,5 @@
 -- What is proved of the machine, a room each. A room X is the file X.antt, whose head says what the room shows and in which order its files
--- are read, and the folder X/ beside it. In the order in which it is built up:
+-- are read, and the folder X/ beside it. In a reader's order:
 --  * Base: laws of words, searches, schedules and lists of operations.
 --  * Invariant: who may touch what when.
 --  * Lines: each of the 51 lines keeps to it.

@@ -15,6 +15,7 @@
 --    (`real-time`). An operation is named by its thread and by how many reads, writes and unmaps of that thread came before it; it is
 --    what stands at its place (`place-holds` of Requests). A place past the end of S is that of an operation that is not in S. Of all
 --    operations, levellings too, `in-real-time` says the same.
+-- The theorem is `linearizable` of Manager.
 --
 -- WHAT A READ GIVES. A read of number k that stands in S after operations l finishes with what the manager reads at k after l
 -- (`read-finished`; `read-answered` says it of the manager alone). That is the word of the last write of k in l, and empty, 0, if an

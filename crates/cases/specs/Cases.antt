@@ -79,14 +79,14 @@ goes zero rest = rest
 goes (suc k) rest = record { call = step 0; number = WENT; value = 0 } ∷ goes k rest
 
 -- an operation of thread 0, begun and stepped to its end: so many steps, the last with the value
-abbrev pub whole : ℕ → ℕ → ℕ → ℕ → ℕ → List Line → List Line
-whole op n c count value rest =
+abbrev pub toItsEnd : ℕ → ℕ → ℕ → ℕ → ℕ → List Line → List Line
+toItsEnd op n c count value rest =
     record { call = begin 0 op n c; number = WENT; value = 0 } ∷ goes (count - 1) (onTheLast value rest)
 
 -- "T=1, N=2, P=3, D=2, whole operations: write 0 7, write 1 9, unmap 0, write 0 8, unmap 0", up to the levelling
 abbrev pub usedTwo : List Line → List Line
 usedTwo rest =
-    whole WRITE 0 7 16 0 (whole WRITE 1 9 16 0 (whole UNMAP 0 0 11 0 (whole WRITE 0 8 16 0 (whole UNMAP 0 0 11 0 rest))))
+    toItsEnd WRITE 0 7 16 0 (toItsEnd WRITE 1 9 16 0 (toItsEnd UNMAP 0 0 11 0 (toItsEnd WRITE 0 8 16 0 (toItsEnd UNMAP 0 0 11 0 rest))))
 
 -- the area of that run after its levelling, a block record a line
 abbrev pub levelled : List ℕ
@@ -110,17 +110,17 @@ starred =
     ∷ formats 17 1 2 1 LIMITS  -- T=17
     ∷ formats 1 1 2 1000 WENT  -- D=1,000
     ∷ formats 1 1 2 1001 LIMITS  -- D=1,001
-    ∷ accepted 1 1 2 1 (whole READ 0 0 3 0 [])  -- read on fresh: 3 steps, value 0
-    ∷ accepted 1 1 2 1 (whole WRITE 0 7 16 0 [])  -- first write: 16 steps
-    ∷ accepted 1 1 2 1 (whole WRITE 0 7 16 0 (whole WRITE 0 8 8 0 []))  -- second write to the same number: 8
-    ∷ accepted 1 1 2 1 (whole UNMAP 0 0 5 0 [])  -- unmap of an unmapped number: 5 steps
-    ∷ accepted 1 1 2 1 (whole WRITE 0 7 16 0 (whole UNMAP 0 0 11 0 []))  -- of a mapped one: 11
-    ∷ accepted 1 1 2 1 (whole LEVEL 0 0 7 0 [])  -- level on fresh: 7 steps, value 0
-    ∷ record { t = 1; n = 2; p = 3; d = 2; number = WENT; lines = usedTwo (whole LEVEL 0 0 18 1 []); end = exactly levelled }  -- levelling gives 1, to its bytes
-    ∷ accepted 1 2 3 2 (usedTwo (whole LEVEL 0 0 18 1 (whole READ 1 0 6 9 (whole READ 0 0 3 0 []))))  -- read 1 gives 9, read 0 gives 0
+    ∷ accepted 1 1 2 1 (toItsEnd READ 0 0 3 0 [])  -- read on fresh: 3 steps, value 0
+    ∷ accepted 1 1 2 1 (toItsEnd WRITE 0 7 16 0 [])  -- first write: 16 steps
+    ∷ accepted 1 1 2 1 (toItsEnd WRITE 0 7 16 0 (toItsEnd WRITE 0 8 8 0 []))  -- second write to the same number: 8
+    ∷ accepted 1 1 2 1 (toItsEnd UNMAP 0 0 5 0 [])  -- unmap of an unmapped number: 5 steps
+    ∷ accepted 1 1 2 1 (toItsEnd WRITE 0 7 16 0 (toItsEnd UNMAP 0 0 11 0 []))  -- of a mapped one: 11
+    ∷ accepted 1 1 2 1 (toItsEnd LEVEL 0 0 7 0 [])  -- level on fresh: 7 steps, value 0
+    ∷ record { t = 1; n = 2; p = 3; d = 2; number = WENT; lines = usedTwo (toItsEnd LEVEL 0 0 18 1 []); end = exactly levelled }  -- levelling gives 1, to its bytes
+    ∷ accepted 1 2 3 2 (usedTwo (toItsEnd LEVEL 0 0 18 1 (toItsEnd READ 1 0 6 9 (toItsEnd READ 0 0 3 0 []))))  -- read 1 gives 9, read 0 gives 0
     -- two that stand beside these and bear no star
-    ∷ accepted 1 2 3 2 (usedTwo (whole LEVEL 0 0 18 1 (whole LEVEL 0 0 7 0 [])))  -- a second level gives 0
-    ∷ accepted 1 2 3 3 (usedTwo (whole LEVEL 0 0 7 0 []))  -- with D=3 the first level gives 0
+    ∷ accepted 1 2 3 2 (usedTwo (toItsEnd LEVEL 0 0 18 1 (toItsEnd LEVEL 0 0 7 0 [])))  -- a second level gives 0
+    ∷ accepted 1 2 3 3 (usedTwo (toItsEnd LEVEL 0 0 7 0 []))  -- with D=3 the first level gives 0
     ∷ []
 
 pub starred-hold : map happens starred ≡ map expected starred

@@ -12,14 +12,14 @@ use Rattle.meaning.specs.Store.{Store}
 use Rattle.meaning.specs.Call.{Reply, Outcome, refused, left, reply, Entry, begin, step, calling, callStore}
 use Rattle.meaning.specs.Schedule.{Words, run, replies, Grown as GrownStore, formatted, called, order, begunBy, finishedBy, placing, starting, finishing, Operation, Answered, operation, emit, takesLast}
 use Rattle.meaning.proofs.Invariant.{Inv}
-use Rattle.meaning.proofs.Demand1.{inv-fresh, inv-grown}
+use Rattle.meaning.proofs.Progress.{inv-fresh, inv-grown}
 use Rattle.store.specs.Area.{encode, decode}
 use Rattle.store.specs.Calls.{callArea, Grown}
 use Rattle.store.proofs.Sound.{Sound}
 use Rattle.store.proofs.Codec.{InRange}
 use Rattle.store.proofs.Range.{ranged-sound, ranged-inRange, encode-decoded, sound-ranged, Good, good-ranged, encode-good, formatted-good, formatted-fresh}
-use Rattle.demands.specs.Schedule.{AllWords, FreshStore, in-limits}
-use Rattle.demands.proofs.Range.{Leaves, calling-ranged}
+use Rattle.demands.specs.History.{AllWords, FreshStore, in-limits}
+use Rattle.demands.proofs.RangeKept.{LeavesRanged, calling-ranged}
 
 -- ---- a call
 
@@ -28,21 +28,21 @@ pub call-sound : (s : Store) → Sound s → InRange s → (e : Entry) → Words
     Sound (callStore s e .after) × InRange (callStore s e .after)
 call-sound s S I e w = go (calling s e) (calling-ranged s (sound-ranged s S I) e w)
   where
-    go : (o : Outcome) → Leaves o → Sound (reply (λ s. s) s o .after) × InRange (reply (λ s. s) s o .after)
+    go : (o : Outcome) → LeavesRanged o → Sound (reply (λ s. s) s o .after) × InRange (reply (λ s. s) s o .after)
     go (refused number) R = (S, I)
     go (left number value s′) R = (ranged-sound s′ R, ranged-inRange s′ R)
 
 -- the reply on an area answers what the reply on a store answers, and leaves a good area that holds what the other leaves
-pub record Matches (x : Reply (List ℕ)) (y : Reply Store) : Type 0 where
+pub record SameReply (x : Reply (List ℕ)) (y : Reply Store) : Type 0 where
   pub number : x .number ≡ y .number
   pub value : x .value ≡ y .value
   pub decoded : decode (x .after) ≡ y .after
   pub good : Good (x .after)
 
-pub after-call : (a : List ℕ) → Good a → (e : Entry) → Words e → Matches (callArea a e) (callStore (decode a) e)
+pub after-call : (a : List ℕ) → Good a → (e : Entry) → Words e → SameReply (callArea a e) (callStore (decode a) e)
 after-call a g e w = rw (g .formed) (go (calling (decode a) e) (calling-ranged (decode a) (good-ranged a g) e w))
   where
-    go : (o : Outcome) → Leaves o → Matches (reply encode a o) (reply (λ s. s) (decode a) o)
+    go : (o : Outcome) → LeavesRanged o → SameReply (reply encode a o) (reply (λ s. s) (decode a) o)
     go (refused number) R = record { number = refl; value = refl; decoded = refl; good = g }
     go (left number value s) R = record { number = refl; value = refl; decoded = encode-decoded s R; good = encode-good s R }
 
@@ -74,7 +74,7 @@ order-decoded a g (e ∷ w) x =
     go e m
     (order-decoded (callArea a e .after) (m .good) w (x .1) ∙ ap (λ (s : Store). order callStore (λ s. s) s w) (m .decoded))
   where
-    go : (e : Entry) → Matches (callArea a e) (callStore (decode a) e) → {l l′ : List Operation} → l ≡ l′ →
+    go : (e : Entry) → SameReply (callArea a e) (callStore (decode a) e) → {l l′ : List Operation} → l ≡ l′ →
         placing callArea decode a e l ≡ placing callStore (λ s. s) (decode a) e l′
     go (begin u op n c) m rest = rest
     go (step u) m rest = λ i.
@@ -90,7 +90,7 @@ begunBy-decoded a g t (e ∷ w) x =
     go e m
     (begunBy-decoded (callArea a e .after) (m .good) t w (x .1) ∙ ap (λ (s : Store). begunBy callStore (λ s. s) s t w) (m .decoded))
   where
-    go : (e : Entry) → Matches (callArea a e) (callStore (decode a) e) → {l l′ : List Operation} → l ≡ l′ →
+    go : (e : Entry) → SameReply (callArea a e) (callStore (decode a) e) → {l l′ : List Operation} → l ≡ l′ →
         starting callArea decode a t e l ≡ starting callStore (λ s. s) (decode a) t e l′
     go (begin u op n c) m rest = λ i. emit (eqb (m .number i) WENT && eqb u t) (operation u op n c) (rest i)
     go (step u) m rest = rest
@@ -105,7 +105,7 @@ finishedBy-decoded a g t (e ∷ w) x =
     (finishedBy-decoded (callArea a e .after) (m .good) t w (x .1)
     ∙ ap (λ (s : Store). finishedBy callStore (λ s. s) s t w) (m .decoded))
   where
-    go : (e : Entry) → Matches (callArea a e) (callStore (decode a) e) → {l l′ : List Answered} → l ≡ l′ →
+    go : (e : Entry) → SameReply (callArea a e) (callStore (decode a) e) → {l l′ : List Answered} → l ≡ l′ →
         finishing callArea decode a t e l ≡ finishing callStore (λ s. s) (decode a) t e l′
     go (begin u op n c) m rest = rest
     go (step u) m rest = λ i.

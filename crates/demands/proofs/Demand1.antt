@@ -21,12 +21,12 @@ use Rattle.meaning.specs.Limits.{inLimits}
 use Rattle.meaning.specs.Store.{Store}
 use Rattle.meaning.specs.Call.{Outcome, refused, left, reply, check, Entry, begin, step, calling, callStore}
 use Rattle.meaning.specs.Schedule.{Words}
-use Rattle.meaning.proofs.Words.{either-way, clash}
-use Rattle.meaning.proofs.Demand1.{no-fault, progress}
+use Rattle.meaning.proofs.Base.Words.{either-way, clash}
+use Rattle.meaning.proofs.Progress.{no-fault, progress}
 use Rattle.store.specs.Layout.{size}
 use Rattle.store.specs.Area.{Bytes, encode, decode, wellFormed}
 use Rattle.store.specs.Calls.{formatArea, callArea, stepArea, Grown}
-use Rattle.demands.specs.Demand1.{known, rests, operable, numbered, Refusals, UnfinishedValue, Open, CanStep, SameSizes}
+use Rattle.demands.specs.RefusalTables.{known, rests, operable, numbered, Refusals, UnfinishedValue, Open, CanStep, SameSizes}
 use Rattle.demands.proofs.Refusals.{said, refusal-tables, calling-each, call-refusing}
 use Rattle.demands.proofs.Bridge.{after-call, grown-good, grown-inv}
 

@@ -3,7 +3,7 @@
 --    reads, writes and unmaps have finished with, in order, and then at most the answer of its open operation.
 --  * area-linearizable: the schedule is linearizable as Herlihy and Wing (1990) define it: what each thread asks and is answered is what
 --    that order says, and what has finished before another operation is begun stands before it (`real-time`).
---    How their definition is met field by field is said at the head of the crate meaning's proofs/Linearizable.
+--    How their definition is met field by field is said at the head of the crate meaning's proofs/Manager/Linearizable.
 --  * area-real-time: that last part by itself. Request i of thread u has finished within v, request i′ of thread u′ has not begun there.
 --  * area-in-real-time: the same of all operations, levellings too.
 --  * area-read-gives: a read that has finished gave the word of the last write of its number before it in that order, and 0 if an
@@ -25,14 +25,15 @@ use Rattle.meaning.specs.Call.{Entry, callStore, isIdle}
 use Rattle.meaning.specs.Manager.{initial, ebmRead}
 use Rattle.meaning.specs.Schedule.{Operation, Answered, run, order, begunBy, finishedBy, obeyAll, managed, ofManager}
 use Rattle.meaning.specs.Demands.{isMapped, kept, leavesAlone, pending, Owed, requestOf, requests, place, Gives, ManagerAnswers, Linearizes, InRealTime}
-use Rattle.meaning.proofs.ManagerView.{keeps, asked}
-use Rattle.meaning.proofs.ManagerAnswers.{manager-answers, manager-keeps, manager-keeps-rest}
-use Rattle.meaning.proofs.Linearizable.{linearizable, in-real-time, reads-give, read-finished, one-block-each}
+use Rattle.meaning.proofs.Manager.{manager-answers, linearizable}
+use Rattle.meaning.proofs.Manager.View.{status, asked}
+use Rattle.meaning.proofs.Manager.Answers.{manager-status, manager-status-rest}
+use Rattle.meaning.proofs.Manager.Linearizable.{in-real-time, reads-give, read-finished, one-block-each}
 use Rattle.store.specs.Area.{decode}
 use Rattle.store.specs.Calls.{callArea, Formatted, Grown}
 use Rattle.store.proofs.Range.{formatted-good, formatted-fresh}
-use Rattle.demands.specs.Demand1.{rests}
-use Rattle.demands.specs.Schedule.{AllWords}
+use Rattle.demands.specs.RefusalTables.{rests}
+use Rattle.demands.specs.History.{AllWords}
 use Rattle.demands.proofs.Bridge.{order-decoded, begunBy-decoded, finishedBy-decoded, grown-inv}
 use Rattle.demands.proofs.History.{areas-follow, words-first}
 
@@ -56,10 +57,10 @@ module _ (a : List ℕ) (f : Formatted a) (w : List Entry) (x : AllWords w) wher
             (λ t n p d limits. linearizable t n p d limits w .asks u);
         answers = area-manager-answers;
         real-time =
-            λ v v′ whole u i u′ i′ finished unbegun.
-            let y = words-first v v′ (subst AllWords (sym whole) x) in
+            λ v v′ split u i u′ i′ finished unbegun.
+            let y = words-first v v′ (subst AllWords (sym split) x) in
             rw (order-decoded a g w x)
-            (L .real-time v v′ whole u i u′ i′ (rw (finishedBy-decoded a g u v y) at finished)
+            (L .real-time v v′ split u i u′ i′ (rw (finishedBy-decoded a g u v y) at finished)
             (rw (begunBy-decoded a g u′ v y) at unbegun));
       }
 
@@ -71,12 +72,12 @@ module _ (a : List ℕ) (f : Formatted a) (w : List Entry) (x : AllWords w) wher
 
   -- of all operations, levellings too
   pub area-in-real-time : InRealTime callArea decode a w
-  area-in-real-time v v′ whole u i u′ i′ finished unbegun =
+  area-in-real-time v v′ split u i u′ i′ finished unbegun =
       let g = formatted-good a f in
       let L = formatted-fresh a f (λ s. InRealTime callStore (λ s. s) s w) (λ t n p d limits. in-real-time t n p d limits w) in
-      let y = words-first v v′ (subst AllWords (sym whole) x) in
+      let y = words-first v v′ (subst AllWords (sym split) x) in
       rw (order-decoded a g w x)
-      (L v v′ whole u i u′ i′ (rw (finishedBy-decoded a g u v y) at finished) (rw (begunBy-decoded a g u′ v y) at unbegun))
+      (L v v′ split u i u′ i′ (rw (finishedBy-decoded a g u v y) at finished) (rw (begunBy-decoded a g u′ v y) at unbegun))
 
   -- A read of thread u that stands in the order after operations l is u's request number `length (requests u l)`, counted from 0.
   pub area-read-gives : (u : ℕ) (l : List Operation) (o : Operation) (l′ : List Operation) →
@@ -97,19 +98,19 @@ module _ (a : List ℕ) (f : Formatted a) (w : List Entry) (x : AllWords w) wher
   -- of number k: whether it is mapped, and what its block holds
   area-keeps : (k : ℕ) →
       ((v : ℕ) → heldBy v (decode (run callArea a w) .locks k) ≡ true → leavesAlone (decode (run callArea a w) .thread v) ≡ true) →
-      keeps (decode (run callArea a w)) k ≡ asked k (obeyAll initial (order callArea decode a w))
+      status (decode (run callArea a w)) k ≡ asked k (obeyAll initial (order callArea decode a w))
   area-keeps k =
       areas-follow a f w x
       (λ h. ((v : ℕ) → heldBy v (h .left .locks k) ≡ true → leavesAlone (h .left .thread v) ≡ true) →
-      keeps (h .left) k ≡ asked k (obeyAll initial (h .order)))
-      (λ t n p d limits. manager-keeps t n p d limits w k)
+      status (h .left) k ≡ asked k (obeyAll initial (h .order)))
+      (λ t n p d limits. manager-status t n p d limits w k)
 
   area-keeps-rest : ((v : ℕ) → rests (run callArea a w) v ≡ true) → (k : ℕ) →
-      keeps (decode (run callArea a w)) k ≡ asked k (obeyAll initial (order callArea decode a w))
+      status (decode (run callArea a w)) k ≡ asked k (obeyAll initial (order callArea decode a w))
   area-keeps-rest =
       areas-follow a f w x
-      (λ h. ((v : ℕ) → isIdle (h .left .thread v) ≡ true) → (k : ℕ) → keeps (h .left) k ≡ asked k (obeyAll initial (h .order)))
-      (λ t n p d limits. manager-keeps-rest t n p d limits w)
+      (λ h. ((v : ℕ) → isIdle (h .left .thread v) ≡ true) → (k : ℕ) → status (h .left) k ≡ asked k (obeyAll initial (h .order)))
+      (λ t n p d limits. manager-status-rest t n p d limits w)
 
   pub area-manager-holds : (k : ℕ) →
       ((v : ℕ) → heldBy v (decode (run callArea a w) .locks k) ≡ true → leavesAlone (decode (run callArea a w) .thread v) ≡ true) →

@@ -17,12 +17,12 @@ use Rattle.meaning.specs.Store.{Store, idle, fresh}
 use Rattle.meaning.specs.Programs.{WRITE, LEVEL}
 use Rattle.meaning.specs.Call.{Entry, begin, step, callStore, storedN, storedC}
 use Rattle.meaning.specs.Schedule.{Operation, operation, emit, takesLast, replies, order, steps, longest, whole, serial}
-use Rattle.meaning.proofs.Words.{either-way}
+use Rattle.meaning.proofs.Base.Words.{either-way}
 use Rattle.store.specs.Area.{decode}
 use Rattle.store.specs.Calls.{callArea, Formatted}
 use Rattle.store.proofs.Sound.{SoundThread}
 use Rattle.store.proofs.Range.{Ranged, Good, good-ranged, formatted-good, formatted-fresh}
-use Rattle.demands.specs.Schedule.{AllWords, History, history}
+use Rattle.demands.specs.History.{AllWords, History, history}
 use Rattle.demands.proofs.Bridge.{after-call, run-decoded, replies-decoded, order-decoded, begunBy-decoded, finishedBy-decoded}
 
 pub history-decoded : (a : List ℕ) → Good a → (w : List Entry) → AllWords w →

@@ -19,12 +19,12 @@ use Rattle.meaning.specs.Numbers.{WENT, FAULT}
 use Rattle.meaning.specs.Limits.{mostWord}
 use Rattle.meaning.specs.Call.{Entry, begin, step}
 use Rattle.meaning.specs.Schedule.{formatted}
-use Rattle.meaning.proofs.Words.{and-left, and-right}
+use Rattle.meaning.proofs.Base.Words.{and-left, and-right}
 use Rattle.store.specs.Layout.{size}
 use Rattle.store.specs.Area.{Bytes, wellFormed}
 use Rattle.store.specs.Calls.{format, Grown}
 use Rattle.demands.specs.Reached.{met, needs, Meeting, formed, reached, meet, meetings, Each, overlap, overtaking, overtaken, slipping, slipped}
-use Rattle.demands.specs.Schedule.{AllWords}
+use Rattle.demands.specs.History.{AllWords}
 use Rattle.demands.proofs.Bridge.{run-grown}
 
 pub needs-fault : map met needs ≡ map (λ x. record { lacking = FAULT; having = true }) needs

@@ -19,11 +19,11 @@ use Rattle.meaning.specs.Store.{Store, idle, fresh}
 use Rattle.meaning.specs.Programs.{WRITE, LEVEL}
 use Rattle.meaning.specs.Step.{nothing, verdict, apply}
 use Rattle.meaning.specs.Call.{Reply, Outcome, refused, left, reply, check, isIdle, begun, told, Entry, begin, step, calling}
-use Rattle.meaning.proofs.Words.{either-way, clash}
+use Rattle.meaning.proofs.Base.Words.{either-way, clash}
 use Rattle.store.specs.Layout.{size}
 use Rattle.store.specs.Calls.{callArea}
 use Rattle.store.specs.Area.{encode, decode, wellFormed}
-use Rattle.demands.specs.Demand1.{FormatRefusals, BeginRefusals, StepRefusals, Refusals}
+use Rattle.demands.specs.RefusalTables.{FormatRefusals, BeginRefusals, StepRefusals, Refusals}
 
 -- ---- the tables of refusals
 

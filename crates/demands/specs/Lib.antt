@@ -1,5 +1,5 @@
 -- The definitions that the demands' statements have of their own.
-pub mod Schedule
-pub mod Demand1
-pub mod EitherOrder
+pub mod History
+pub mod RefusalTables
+pub mod SameLock
 pub mod Reached

@@ -13,7 +13,7 @@ use Rattle.meaning.specs.Demands.{one-by-one}
 use Rattle.store.specs.Layout.{lockAt, ownerAt, locksAt, blocksAt, size}
 use Rattle.store.specs.Area.{bytes, decode}
 use Rattle.store.specs.Calls.{formatArea, callArea, stepArea}
-use Rattle.demands.specs.Demand1.{rests}
+use Rattle.demands.specs.RefusalTables.{rests}
 
 -- ---- needs that are not met
 

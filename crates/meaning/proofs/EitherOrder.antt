@@ -26,13 +26,13 @@ use Rattle.meaning.specs.Holding.{free, by, heldBy}
 use Rattle.meaning.specs.Programs.{actAt}
 use Rattle.meaning.specs.Step.{block, setC, nothing, next, need, touches, perform, verdict, become, put, apply}
 use Rattle.meaning.specs.Call.{Reply, step, callStore, told, reply, isIdle}
-use Rattle.meaning.proofs.Words.{either-way, by-held, clash, and-left, and-right, or-way, by-other, held-once, held-not-free, upd-same, upd-other, upd-each}
-use Rattle.meaning.proofs.Called.{by-step}
-use Rattle.meaning.proofs.Invariant.{takesH, takesN, takesLock, holdsH, ownsHeaders, ownsP, Passes, takes, gives, Changes, Puts, Guards, GuardsMap, GuardsHeader, GuardsContent, GuardsWear, Inv}
-use Rattle.meaning.proofs.Keeping.{reads-map, everyLine, everywhere, standing, p-owned, Moves, moves-inv, word-kept, entry-kept, map-kept, header-kept, wear-kept, content-kept}
+use Rattle.meaning.proofs.Base.Words.{either-way, by-held, clash, and-left, and-right, or-way, by-other, held-once, held-not-free, upd-same, upd-other, upd-each}
+use Rattle.meaning.proofs.Base.Schedules.{by-step}
+use Rattle.meaning.proofs.Invariant.{takesH, takesN, takesLock, holdsH, ownsHeaders, ownsP, Passes, takes, gives-up, Becomes, Puts, Guards, GuardsMap, GuardsHeader, GuardsContent, GuardsWear, Inv}
+use Rattle.meaning.proofs.Invariant.Keeping.{reads-map, everyLine, everywhere, standing, p-owned, Moves, moves-inv, word-kept, entry-kept, map-kept, header-kept, wear-kept, content-kept}
 use Rattle.meaning.proofs.Lines.{Fine}
-use Rattle.meaning.proofs.EveryLine.{fine}
-use Rattle.meaning.proofs.Demand1.{no-fault, CanStep}
+use Rattle.meaning.proofs.Lines.EveryLine.{fine}
+use Rattle.meaning.proofs.Progress.{no-fault, CanStep}
 
 -- ---- what is said
 
@@ -90,11 +90,11 @@ need-alike false true x y e = absurd (x refl)
 need-alike false false x y e = refl
 
 -- a free lock that t is not about to take stays free
-free-kept : (about : Type 0) (t : ℕ) (c : Word) (w : ℕ) → Changes c (Passes about t w) → (about → ⊥) → free w ≡ true →
+free-kept : (about : Type 0) (t : ℕ) (c : Word) (w : ℕ) → Becomes c (Passes about t w) → (about → ⊥) → free w ≡ true →
     free (become c w) ≡ true
 free-kept about t Stay w x never f = f
 free-kept about t (Become w′) w (takes _ y _) never f = absurd (never y)
-free-kept about t (Become w′) w (gives _ e) never f = rw e
+free-kept about t (Become w′) w (gives-up _ e) never f = rw e
 
 entry-free-kept : (about : ℕ → Type 0) (t : ℕ) (c : Update) (f : ℕ → ℕ) → Puts c (λ k. Passes (about k) t (f k)) →
     (k : ℕ) → (about k → ⊥) → free (f k) ≡ true → free (put c f k) ≡ true
@@ -205,12 +205,12 @@ module _ (t u : ℕ) (apart : t ≡ u → ⊥) where
   -- no word passes from both: a, b and b′ are what they were about to take
   passes-apart : {a b b′ : Type 0} (w v v′ : ℕ) → Passes a t w v → Passes b u w v′ → Passes b′ u v v′ → ⊥
   passes-apart w v v′ (takes f _ e) y (takes g _ _) = clash g (rw e (held-not-free t (by t) (by-held t)))
-  passes-apart w v v′ (takes f _ e) y (gives h _) = clash h (rw e (by-other t u apart))
-  passes-apart w v v′ (gives h _) (takes f _ _) z = clash f (held-not-free t w h)
-  passes-apart w v v′ (gives h _) (gives g _) z = apart (held-once t u w h g)
+  passes-apart w v v′ (takes f _ e) y (gives-up h _) = clash h (rw e (by-other t u apart))
+  passes-apart w v v′ (gives-up h _) (takes f _ _) z = clash f (held-not-free t w h)
+  passes-apart w v v′ (gives-up h _) (gives-up g _) z = apart (held-once t u w h g)
 
-  words-commute : (a b : Type 0) (c d : Word) (w : ℕ) → Changes c (Passes a t w) → Changes d (Passes b u w) →
-      Changes d (Passes b u (become c w)) → become d (become c w) ≡ become c (become d w)
+  words-commute : (a b : Type 0) (c d : Word) (w : ℕ) → Becomes c (Passes a t w) → Becomes d (Passes b u w) →
+      Becomes d (Passes b u (become c w)) → become d (become c w) ≡ become c (become d w)
   words-commute a b Stay d w x y z = refl
   words-commute a b (Become v) Stay w x y z = refl
   words-commute a b (Become v) (Become v′) w x y z = absurd (passes-apart w v v′ x y z)
@@ -286,8 +286,8 @@ abbrev pub left-by : (s : Store) (t : ℕ) → Going s t → Store
 left-by s t g = apply s t (g .becomes) (g .effect)
 
 -- what its call replies
-abbrev pub answered : (s : Store) (t : ℕ) → Going s t → Reply Store
-answered s t g = record { number = g .number; value = g .value; after = left-by s t g }
+abbrev pub reply-of : (s : Store) (t : ℕ) → Going s t → Reply Store
+reply-of s t g = record { number = g .number; value = g .value; after = left-by s t g }
 
 module _ (s : Store) (t : ℕ) where
   pub told-going : t < s .threads → isIdle (s .thread t) ≡ false → (v : Verdict) → v ≡ verdict s t →
@@ -325,7 +325,7 @@ module _ (s : Store) (t : ℕ) where
   goes-reply v n a r e goes = refl
   goes-reply v n a r e ends = refl
 
-  pub going-reply : (g : Going s t) → callStore s (step t) ≡ answered s t g
+  pub going-reply : (g : Going s t) → callStore s (step t) ≡ reply-of s t g
   going-reply g =
       rw (lt-ltb t (s .threads) (g .below), g .busy)
       (goes-reply (verdict s t) (g .number) (g .value) (g .becomes) (g .effect) (g .told′))
@@ -390,9 +390,9 @@ either-order s I t u apart steps steps′ others =
     let others′ = sameTake-sym (s .thread t) (s .thread u) others in
     let u-after = still s I t (g .becomes) (g .effect) M (g .below) u apart others k in
     let t-after = still s I u (k .becomes) (k .effect) (going-moves s u I k) (k .below) t (λ e. apart (sym e)) others′ g in
-    let u-second : callStore (callStore s (step t) .after) (step u) ≡ answered (left-by s t g) u u-after =
+    let u-second : callStore (callStore s (step t) .after) (step u) ≡ reply-of (left-by s t g) u u-after =
     rw (going-reply s t g) (going-reply (left-by s t g) u u-after) in
-    let t-second : callStore (callStore s (step u) .after) (step t) ≡ answered (left-by s u k) t t-after =
+    let t-second : callStore (callStore s (step u) .after) (step t) ≡ reply-of (left-by s u k) t t-after =
     rw (going-reply s u k) (going-reply (left-by s u k) t t-after) in
     record {
       number = ap (λ (x : Reply Store). x .number) t-second ∙ sym (ap (λ (x : Reply Store). x .number) (going-reply s t g));

@@ -1,4 +1,4 @@
--- Who may touch what when: the invariant of the machine, `Inv`. Each store grown from fresh satisfies it (Demand1).
+-- Who may touch what when: the invariant of the machine, `Inv`. Each store grown from fresh satisfies it (Progress).
 --
 -- THE TABLE says of a thread, from its operation and line alone, what it holds, owns, is about to take and knows. A range is of lines at
 -- which the thread stands: that line is its next. Lay it beside 01, "The lines": a range opens after the line that takes, owns, looks
@@ -19,7 +19,12 @@
 -- MAP AND HEADERS: the map points to blocks whose header points back, at all times (`Agrees`); a header points to a number that is
 -- mapped to its block, unless that block is astray (`mapped`). They agree when nobody owns the headers.
 --
--- Definitions only. Assumes nothing.
+-- Definitions only; the files of the room use them:
+--  * Keeping: a step of one thread keeps what the others hold and know, and so the invariant.
+--  * Sharing: what the invariant says of who shares what.
+-- Assumes nothing.
+pub mod Keeping
+pub mod Sharing
 use mathlib.Core.Path.{_≡_}
 use mathlib.Core.Bool.{Bool, true, false, _&&_, _||_}
 use mathlib.Core.List.{List, [], _∷_, _++_}
@@ -237,9 +242,9 @@ Stands r = (r ≡ idle) ⊎ (onLine r ≡ true)
 
 -- ---- which lock or owner guards which words
 
-abbrev pub Changes : Word → (ℕ → Type 0) → Type 0
-Changes Stay guard = Unit {0}
-Changes (Become w) guard = guard w
+abbrev pub Becomes : Word → (ℕ → Type 0) → Type 0
+Becomes Stay guard = Unit {0}
+Becomes (Become w) guard = guard w
 
 abbrev pub Puts : Update → (ℕ → ℕ → Type 0) → Type 0
 Puts Keep guard = Unit {0}
@@ -248,7 +253,7 @@ Puts (Put i w) guard = guard i w
 -- a lock or owner word: t takes it where it is free, or gives it up where it is t's; a lock is taken only by who is about to
 pub data Passes (about : Type 0) (t w w′ : ℕ) : Type 0 where
   takes : free w ≡ true → about → w′ ≡ by t → Passes about t w w′
-  gives : heldBy t w ≡ true → w′ ≡ none → Passes about t w w′
+  gives-up : heldBy t w ≡ true → w′ ≡ none → Passes about t w w′
 
 -- a map entry: the headers' owner with the number's lock
 pub record GuardsMap (s : Store) (t k : ℕ) : Type 0 where
@@ -271,8 +276,8 @@ pub record GuardsWear (s : Store) (t m : ℕ) : Type 0 where
 
 -- thread t with record r has in store s what guards each word that the effect changes
 pub record Guards (s : Store) (t : ℕ) (r : Thread) (e : Effect) : Type 0 where
-  pub lock : Changes (e .lock) (Passes (takesH r ≡ true) t (s .lock))
-  pub owner : Changes (e .owner) (Passes Unit t (s .owner))
+  pub lock : Becomes (e .lock) (Passes (takesH r ≡ true) t (s .lock))
+  pub owner : Becomes (e .owner) (Passes Unit t (s .owner))
   pub locks : Puts (e .locks) (λ k. Passes (takesLock r k ≡ true) t (s .locks k))
   pub own : Puts (e .own) (λ m. Passes Unit t (s .own m))
   pub map : Puts (e .map) (λ k w. GuardsMap s t k)

@@ -1,33 +1,16 @@
--- What is proved of the machine, in the order in which it is built up.
-pub mod Words
+-- What is proved of the machine, a room each. A room X is the file X.antt, whose head says what the room shows and in which order its files
+-- are read, and the folder X/ beside it. In a reader's order:
+--  * Base: laws of words, searches, schedules and lists of operations.
+--  * Invariant: who may touch what when.
+--  * Lines: each of the 51 lines keeps to it.
+--  * Progress: demand 1. Nothing faults, and somebody can step.
+--  * EitherOrder: demand 3, first half.
+--  * Manager: demand 2. Each answer is the atomic manager's, and schedules are linearizable.
+--  * OneAtATime: demand 3, second half.
+pub mod Base
 pub mod Invariant
-pub mod ManagerView
-pub mod Keeping
-pub mod Blocks
-pub mod Sharing
 pub mod Lines
-pub mod Write
-pub mod Read
-pub mod Unmap
-pub mod Level
-pub mod EveryLine
-pub mod Called
-pub mod Demand1
-pub mod Guarded
+pub mod Progress
 pub mod EitherOrder
-pub mod Schedules
-pub mod ManagerLaws
-pub mod ManagerStep
-pub mod ManagerAnswers
-pub mod Shapes
-pub mod Places
-pub mod Settles
-pub mod Alone
-pub mod Replay
-pub mod LastLock
+pub mod Manager
 pub mod OneAtATime
-pub mod EachOnce
-pub mod Requests
-pub mod Linearizable
-pub mod ManagerSamples
-pub mod OneAtATimeSamples

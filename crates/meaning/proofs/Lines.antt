@@ -1,6 +1,13 @@
 -- What a line must show, `Fine`, and the laws that the lines' proofs share: what a line that takes, owns, releases or lets go has next,
--- and what becomes of map and headers where a line writes there.
+-- and what becomes of map and headers where a line writes there. The files of the room use it:
+--  * Write, Read, Unmap, Level: the lines of each operation, a proof each, by their labels.
+--  * EveryLine: all of them, and every begin, put together (`fine`, `begins`).
 -- Assumes nothing.
+pub mod Write
+pub mod Read
+pub mod Unmap
+pub mod Level
+pub mod EveryLine
 use mathlib.Core.Path.{_≡_, refl, sym, ap, _∙_, subst}
 use mathlib.Core.Bool.{Bool, true, false, not, _||_}
 use mathlib.Core.List.{[], _∷_}
@@ -20,10 +27,10 @@ use Rattle.meaning.specs.Programs.{actAt}
 use Rattle.meaning.specs.Step.{perform, apply}
 use Rattle.meaning.specs.Schedule.{emit, ofManager}
 use Rattle.meaning.specs.Demands.{kept}
-use Rattle.meaning.proofs.Words.{same, either-way, clash, by-held, none-held, naming-once, naming-not-none, naming-not-free, naming-named, named-naming, named-below, upd-each}
-use Rattle.meaning.proofs.Invariant.{takes, gives, holdsH, holdsN, ownsP, ownsQ, Holds, Facts, Agrees, Back, Inv}
-use Rattle.meaning.proofs.ManagerView.{keeps, places, answered, due}
-use Rattle.meaning.proofs.Keeping.{p-owned, q-owned, Moves}
+use Rattle.meaning.proofs.Base.Words.{same, either-way, clash, by-held, none-held, naming-once, naming-not-none, naming-not-free, naming-named, named-naming, named-below, upd-each}
+use Rattle.meaning.proofs.Invariant.{takes, gives-up, holdsH, holdsN, ownsP, ownsQ, Holds, Facts, Agrees, Back, Inv}
+use Rattle.meaning.proofs.Manager.View.{status, places, answered, due}
+use Rattle.meaning.proofs.Invariant.Keeping.{p-owned, q-owned, Moves}
 
 infixr 30 _▸_
 -- ---- what a line must show
@@ -238,18 +245,18 @@ pub kept-on : (s : Store) (n m : ℕ) → s .map n ≡ naming m → kept s n ≡
 kept-on s n m on = rw (naming-not-free m (s .map n) on, on, named-naming m)
 
 -- so a mapped number that holds c
-pub keeps-on : (s : Store) (n m c : ℕ) → s .map n ≡ naming m → kept s n ≡ c → keeps s n ≡ record { mapped = true; content = c }
-keeps-on s n m c on is = λ i. record { mapped = not (naming-not-free m (s .map n) on i); content = is i }
+pub status-on : (s : Store) (n m c : ℕ) → s .map n ≡ naming m → kept s n ≡ c → status s n ≡ record { mapped = true; content = c }
+status-on s n m c on is = λ i. record { mapped = not (naming-not-free m (s .map n) on i); content = is i }
 
 -- and one that is moved from block m to m′ with its content
-pub keeps-moved : (s s′ : Store) (n m m′ : ℕ) → s .map n ≡ naming m → s′ .map n ≡ naming m′ → s′ .content m′ ≡ s .content m →
-    keeps s′ n ≡ keeps s n
-keeps-moved s s′ n m m′ on on′ is =
-    keeps-on s′ n m′ (s .content m) on′ (kept-on s′ n m′ on′ ∙ is) ∙ sym (keeps-on s n m (s .content m) on (kept-on s n m on))
+pub status-moved : (s s′ : Store) (n m m′ : ℕ) → s .map n ≡ naming m → s′ .map n ≡ naming m′ → s′ .content m′ ≡ s .content m →
+    status s′ n ≡ status s n
+status-moved s s′ n m m′ on on′ is =
+    status-on s′ n m′ (s .content m) on′ (kept-on s′ n m′ on′ ∙ is) ∙ sym (status-on s n m (s .content m) on (kept-on s n m on))
 
 -- what is known of an idle thread
 pub facts-idle : (s : Store) → 0 < s .numbers → s .numbers < s .blocks → Facts s idle
 facts-idle s some more = search arith
 
 -- what proves nearly every line's part: what it takes and gives, and what it has of it next
-pub ruleset keeping = (takes, gives, same, by-held, none-held, entry-taken, entry-given, inl, inr)
+pub ruleset keeping = (takes, gives-up, same, by-held, none-held, entry-taken, entry-given, inl, inr)

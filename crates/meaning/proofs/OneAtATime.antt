@@ -1,8 +1,22 @@
 -- One at a time, over stores: when every thread is idle after a schedule from fresh, the store is the one that the operations of its order
 -- of last locks leave, run whole one after the other; and each thread's operations have answered the same (`one-at-a-time`). Before that,
 -- finished or not: what a thread has finished with are the first of its answers in that run, and the rest is at most one, that of its
--- open operation that has its place (`answers-so-far`).
+-- open operation that has its place (`answers-so-far`). To be read in this order:
+--  * Shapes, Places: what an act may do to its thread's record, and which open operations have their place in the order.
+--  * Settles: what a store comes to when those go on to their end; a thread that moves first doesn't change it.
+--  * Alone, Replay: a thread alone in a store, and the lines before its last lock run again.
+--  * LastLock: a step that takes a last lock turns what the store comes to into what the whole operation leaves.
+--  * EachOnce: each begun operation stands in the order at most once, and each finished one exactly once.
+--  * Samples: two schedules, computed.
 -- Assumes nothing.
+pub mod Shapes
+pub mod Places
+pub mod Settles
+pub mod Alone
+pub mod Replay
+pub mod LastLock
+pub mod EachOnce
+pub mod Samples
 use mathlib.Core.Path.{_≡_, refl, sym, ap, _∙_, subst}
 use mathlib.Core.Bool.{Bool, true, false, _&&_, and-false}
 use mathlib.Core.List.{List, [], _∷_, _++_, append-nil, append-assoc}
@@ -20,16 +34,15 @@ use Rattle.meaning.specs.Step.{nothing, apply}
 use Rattle.meaning.specs.Call.{Reply, Entry, begin, step, callStore, told, isIdle, begun, reply}
 use Rattle.meaning.specs.Schedule.{Operation, Answered, emit, takesLast, placed, run, placing, finishing, order, serial}
 use Rattle.meaning.specs.Demands.{Owed, none-owed, one-owed, OneAtATime, AnswersSoFar}
-use Rattle.meaning.proofs.Words.{same, either-way, clash, nobody-free, free-none, upd-same, upd-other}
-use Rattle.meaning.proofs.Called.{by-begin}
+use Rattle.meaning.proofs.Base.Words.{same, either-way, clash, nobody-free, free-none, upd-same, upd-other}
 use Rattle.meaning.proofs.Invariant.{holdsH, ownsHeaders, holdsLock, ownsBlock, Inv}
-use Rattle.meaning.proofs.EveryLine.{idle-is}
-use Rattle.meaning.proofs.Demand1.{inv-fresh, inv-call, inv-run}
+use Rattle.meaning.proofs.Lines.EveryLine.{idle-is}
+use Rattle.meaning.proofs.Progress.{inv-fresh, inv-call, inv-run}
 use Rattle.meaning.proofs.EitherOrder.{Going, left-by, can-going, going-reply, going-moves}
-use Rattle.meaning.proofs.Places.{went, over, Came, going-came, last-unplaced, placed-going, placed-kept}
-use Rattle.meaning.proofs.Settles.{cleared, stepped, stepped-is, answering, Settles, rest, more, settles-alike, Moved, Ready, early-settles, begin-settles, late-settles}
-use Rattle.meaning.proofs.LastLock.{work, answers-of, last-settles}
-use Rattle.meaning.proofs.Schedules.{step-stays, refused-number, emit-append, placing-append, finishing-append, run-append, finishedBy-append, serial-append}
+use Rattle.meaning.proofs.OneAtATime.Places.{went, over, Came, going-came, last-unplaced, placed-going, placed-kept}
+use Rattle.meaning.proofs.OneAtATime.Settles.{cleared, stepped, stepped-is, answering, SettlesTo, rest, more, settles-alike, Moved, Ready, early-settles, begin-settles, late-settles}
+use Rattle.meaning.proofs.OneAtATime.LastLock.{work, answers-of, last-settles}
+use Rattle.meaning.proofs.Base.Schedules.{by-begin, step-stays, refused-number, emit-append, placing-append, finishing-append, run-append, finishedBy-append, serial-append}
 
 -- ---- at most one answer is owed
 
@@ -51,7 +64,7 @@ kept-after : (s d : Store) (a : ℕ → List Answered) → Moved s d (λ u l l�
 kept-after s d a M =
     record { answers = M .answers; settles = M .settles; related = λ u. append-nil (a u) ∙ M .related u }
 
-same-after : (s d : Store) (a : ℕ → List Answered) → Settles s d a → After s d a [] (λ u. [])
+same-after : (s d : Store) (a : ℕ → List Answered) → SettlesTo s d a → After s d a [] (λ u. [])
 same-after s d a S = kept-after s d a (record { answers = a; settles = S; related = λ u. refl })
 
 after-alike : (s d : Store) (a : ℕ → List Answered) (p p′ : List Operation) (f f′ : ℕ → List Answered) → After s d a p f →
@@ -64,7 +77,7 @@ after-alike s d a p p′ f f′ M placed′ finished =
       related = λ u. M .related u ∙ ap (λ (l : List Answered). l ++ M .answers u) (sym (finished u));
     })
 
-module _ (s : Store) (I : Inv s) (d : Store) (a : ℕ → List Answered) (S : Settles s d a) where
+module _ (s : Store) (I : Inv s) (d : Store) (a : ℕ → List Answered) (S : SettlesTo s d a) where
   abbrev placings : Entry → List Operation
   placings e = placing callStore (λ s. s) s e []
 
@@ -163,7 +176,7 @@ after-join s s′ d a p q f g M N =
     }
 
 -- d runs the operations of the order, and what is finished comes before what is owed
-so-far : (w : List Entry) (s : Store) → Inv s → (d : Store) (a : ℕ → List Answered) → Settles s d a →
+so-far : (w : List Entry) (s : Store) → Inv s → (d : Store) (a : ℕ → List Answered) → SettlesTo s d a →
     After (run callStore s w) d a (order callStore (λ s. s) s w) (answers-of s w)
 so-far [] s I d a S = same-after s d a S
 so-far (e ∷ w) s I d a S =
@@ -225,7 +238,7 @@ module _ (s : Store) (I : Inv s) (t : ℕ) (g : Going s t) (has : placed s (s .t
       (owed-own (going-came s I t g)) o′)
       (λ x. owed-other u (eqb-false t u x) o′)
 
-settles-owed : {s d : Store} {a : ℕ → List Answered} → Inv s → Settles s d a → (u : ℕ) → Owed s u (a u)
+settles-owed : {s d : Store} {a : ℕ → List Answered} → Inv s → SettlesTo s d a → (u : ℕ) → Owed s u (a u)
 settles-owed {s} I (rest nobody _ none) u = none-owed (nobody u) (none u)
 settles-owed {s} I (more {b = b} t has S is) u =
     subst (Owed s u) (sym (is u))
@@ -233,7 +246,7 @@ settles-owed {s} I (more {b = b} t has S is) u =
 
 -- ---- the theorems
 
-fresh-settles : (t n p d : ℕ) → Settles (fresh t n p d) (fresh t n p d) (λ u. [])
+fresh-settles : (t n p d : ℕ) → SettlesTo (fresh t n p d) (fresh t n p d) (λ u. [])
 fresh-settles t n p d = rest (λ v. refl) refl (λ u. refl)
 
 -- where everybody is idle, nothing is held and nothing is owed
@@ -263,7 +276,7 @@ module _ (s : Store) (I : Inv s) (rests : (u : ℕ) → isIdle (s .thread u) ≡
         own = λ m. nobody-has (s .own m) (λ r. ownsBlock r m) refl (λ v. I .holds v .own m) i;
       }
 
-  idle-settles : {d : Store} {a : ℕ → List Answered} → Settles s d a → (s ≡ d) × ((u : ℕ) → a u ≡ [])
+  idle-settles : {d : Store} {a : ℕ → List Answered} → SettlesTo s d a → (s ≡ d) × ((u : ℕ) → a u ≡ [])
   idle-settles (rest _ is owed) = (sym (is ∙ cleared-idle), owed)
   idle-settles (more t has _ _) = clash has (rw (is-idle t))
 

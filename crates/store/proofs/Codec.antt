@@ -140,21 +140,21 @@ record Part : Type 0 where
   long : length before ≡ at
   even : (k : ℕ) → length (row k) ≡ width
 
-abbrev whole : Part → List ℕ
-whole t = t .before ++ rows 0 (t .count) (t .row)
+abbrev through : Part → List ℕ
+through t = t .before ++ rows 0 (t .count) (t .row)
 
 module _ (t : Part) where
-  length-whole : length (whole t) ≡ t .at + t .width * t .count
-  length-whole =
+  length-through : length (through t) ≡ t .at + t .width * t .count
+  length-through =
       length-append (t .before) (rows 0 (t .count) (t .row))
       ∙ ap₂ _+_ (t .long) (length-rows (t .width) (t .row) (t .even) (t .count) 0)
 
-  word-before : (i : ℕ) → i < t .at → getD (whole t) i 0 ≡ getD (t .before) i 0
+  word-before : (i : ℕ) → i < t .at → getD (through t) i 0 ≡ getD (t .before) i 0
   word-before i h = List·getD-append (t .before) (rows 0 (t .count) (t .row)) 0 i (omega (arith, t .long))
 
-  word-within : (k e : ℕ) → k < t .count → e < t .width → getD (whole t) (t .at + (t .width * k + e)) 0 ≡ getD (t .row k) e 0
+  word-within : (k e : ℕ) → k < t .count → e < t .width → getD (through t) (t .at + (t .width * k + e)) 0 ≡ getD (t .row k) e 0
   word-within k e h l =
-      ap (λ i. getD (whole t) (i + (t .width * k + e)) 0) (sym (t .long))
+      ap (λ i. getD (through t) (i + (t .width * k + e)) 0) (sym (t .long))
       ∙ getD-append-add (t .before) (rows 0 (t .count) (t .row)) (t .width * k + e) 0
       ∙ getD-row (t .width) (t .row) (t .even) (t .count) k e h l
 
@@ -166,16 +166,16 @@ module _ (s : Store) where
   threadPart = record { before = heads; at = threadsAt; width = threadWords; count = s .threads; row = λ t. threadRow (s .thread t); long = refl; even = λ k. refl }
 
   abbrev mapPart : Part
-  mapPart = record { before = whole threadPart; at = mapAt (s .threads); width = 1; count = s .numbers; row = λ n. s .map n ∷ []; long = length-whole threadPart; even = λ k. refl }
+  mapPart = record { before = through threadPart; at = mapAt (s .threads); width = 1; count = s .numbers; row = λ n. s .map n ∷ []; long = length-through threadPart; even = λ k. refl }
 
   abbrev locksPart : Part
-  locksPart = record { before = whole mapPart; at = locksAt (s .threads) (s .numbers); width = 1; count = s .numbers; row = λ n. s .locks n ∷ []; long = omega (arith, length-whole mapPart); even = λ k. refl }
+  locksPart = record { before = through mapPart; at = locksAt (s .threads) (s .numbers); width = 1; count = s .numbers; row = λ n. s .locks n ∷ []; long = omega (arith, length-through mapPart); even = λ k. refl }
 
   abbrev blocksPart : Part
-  blocksPart = record { before = whole locksPart; at = blocksAt (s .threads) (s .numbers); width = blockWords; count = s .blocks; row = blockRow s; long = omega (arith, length-whole locksPart); even = λ k. refl }
+  blocksPart = record { before = through locksPart; at = blocksAt (s .threads) (s .numbers); width = blockWords; count = s .blocks; row = blockRow s; long = omega (arith, length-through locksPart); even = λ k. refl }
 
   pub length-words : length (words s) ≡ areaWords (s .threads) (s .numbers) (s .blocks)
-  length-words = length-whole blocksPart
+  length-words = length-through blocksPart
 
   pub length-encode : length (encode s) ≡ size (s .threads) (s .numbers) (s .blocks)
   length-encode = length-bytes (words s) ∙ ap (λ n. 4 * n) length-words

@@ -8,7 +8,7 @@ use lib.Dec.{leb, ltb}
 use borrow.Author.Tests.{lt-ltb, ltb-true, ltb-false}
 use Rattle.meaning.specs.Table.{below, every}
 use Rattle.meaning.specs.Store.{idle}
-use Rattle.meaning.proofs.Words.{either-way}
+use Rattle.meaning.proofs.Base.Words.{either-way}
 use Rattle.store.specs.Layout.{lockAt, ownerAt, threadsAt, threadWords, mapAt, locksAt, blocksAt, blockWords}
 use Rattle.store.specs.Area.{word, threadFrom, storeOf, decode, soundThread, inBounds}
 use Rattle.store.specs.Live.{Live}

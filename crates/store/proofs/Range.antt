@@ -13,7 +13,7 @@ use Rattle.meaning.specs.declared.Thread.{Thread}
 use Rattle.meaning.specs.Numbers.{WENT}
 use Rattle.meaning.specs.Limits.{mostWord, inLimits}
 use Rattle.meaning.specs.Store.{Store, idle, fresh}
-use Rattle.meaning.proofs.Words.{either-way}
+use Rattle.meaning.proofs.Base.Words.{either-way}
 use Rattle.store.specs.Layout.{tAt, size}
 use Rattle.store.specs.Area.{Bytes, word, rows, threadRow, blockRow, words, encode, column, decode, wellFormed}
 use Rattle.store.specs.Calls.{formatArea, Formatted, format}

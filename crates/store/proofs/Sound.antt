@@ -15,7 +15,7 @@ use Rattle.meaning.specs.Table.{every}
 use Rattle.meaning.specs.Limits.{least, mostThreads, mostNumbers, mostBlocks, mostDistance, within, inLimits}
 use Rattle.meaning.specs.Store.{Store, idle}
 use Rattle.meaning.specs.Programs.{LEVEL, lastLine}
-use Rattle.meaning.proofs.Words.{and-left, and-right, within-true}
+use Rattle.meaning.proofs.Base.Words.{and-left, and-right, within-true}
 use Rattle.store.specs.Layout.{tAt, nAt, pAt, dAt, size}
 use Rattle.store.specs.Live.{Live}
 use Rattle.store.specs.Area.{word, decode, zeros, working, soundThread, inBounds, sound, fitted, wellFormed}

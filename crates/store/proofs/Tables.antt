@@ -19,7 +19,7 @@ use Rattle.meaning.specs.Table.{upd, below}
 use Rattle.meaning.specs.Store.{Store, idle}
 use Rattle.meaning.specs.Step.{put, apply, nothing, onLock, onOwner}
 use Rattle.meaning.specs.Limits.{mostWord}
-use Rattle.meaning.proofs.Words.{upd-same, upd-other, either-way}
+use Rattle.meaning.proofs.Base.Words.{upd-same, upd-other, either-way}
 use Rattle.store.specs.Layout.{tAt, nAt, pAt, dAt, lockAt, ownerAt, threadsAt, threadWords, mapAt, locksAt, blocksAt, blockWords, size}
 use Rattle.store.specs.Area.{word, threadRow, threadFrom, column, storeOf, decode}
 use Rattle.store.specs.Live.{Live, Within, EntryWithin, BecomeFits, EntryFits, EntryBelow, Small, withEffect, putWord, putThread, putBecome, putEntry}

@@ -12,7 +12,7 @@ use lib.Seq.{getD-set-same, getD-set-other, set-out, drop-cons}
 use borrow.Author.Tests.{eqb-true, eqb-false}
 use Rattle.meaning.specs.Limits.{mostWord}
 use Rattle.meaning.specs.Table.{upd}
-use Rattle.meaning.proofs.Words.{either-way, upd-same, upd-other}
+use Rattle.meaning.proofs.Base.Words.{either-way, upd-same, upd-other}
 use Rattle.store.specs.Area.{Bytes, word, bytes}
 use Rattle.store.specs.Live.{Within, putWord}
 

@@ -1,0 +1,109 @@
+-- DEMAND 3, first half, over areas of bytes: two threads of an area grown from fresh that can both step, and are not about to take the
+-- same lock, may step in either order. Each gives the same number and value, and the bytes at the end are the same.
+-- Where it is met in the middle of two operations, and that it isn't so for the same lock, is computed in Reached.
+-- Assumes nothing.
+use mathlib.Core.Path.{_≡_, refl, sym, _∙_, subst}
+use mathlib.Core.Bool.{true, false, _&&_, _||_}
+use mathlib.Core.List.{List}
+use Prim.Native.Nat.{ℕ, zero, suc, _≤_}
+use native.Mathlib.Omega.{arith}
+use lib.Dec.{ltb}
+use borrow.Author.Tests.{ltb-true, le-leb, eqb-true}
+use Rattle.meaning.specs.declared.Act.the-variants.{TakeH, TakeN}
+use Rattle.meaning.specs.declared.Thread.{Thread}
+use Rattle.meaning.specs.Numbers.{FINISHED}
+use Rattle.meaning.specs.Limits.{mostWord, within}
+use Rattle.meaning.specs.Store.{Store}
+use Rattle.meaning.specs.Programs.{actAt}
+use Rattle.meaning.specs.Call.{step, callStore}
+use Rattle.meaning.proofs.Base.Words.{either-way, and-left, and-right, or-way, within-true, clash}
+use Rattle.meaning.proofs.Invariant.{takesH, takesN, takesLock}
+use Rattle.meaning.proofs.Invariant.Keeping.{standing}
+use Rattle.meaning.proofs.Progress.{CanStep as CanStepStore}
+use Rattle.meaning.proofs.EitherOrder.{sameTake, either-order}
+use Rattle.store.specs.Area.{decode}
+use Rattle.store.specs.Calls.{stepArea, Grown}
+use Rattle.store.proofs.Range.{Good, decode-injective, good-ranged}
+use Rattle.demands.specs.RefusalTables.{CanStep}
+use Rattle.demands.specs.SameLock.{SameLock, both-H, both-N, EitherOrder}
+use Rattle.demands.proofs.Bridge.{SameReply, after-call, grown-good, grown-inv}
+use Rattle.demands.proofs.Demand1.{refusals, number-decoded}
+
+-- ---- the rows of the invariant's table are these acts
+
+-- a range of one line
+one-line : (k line : ℕ) → (within k k line || false) ≡ true → line ≡ k
+one-line k line x = or-way (within k k line) false x (λ y. let z = within-true k k line y in omega arith) (λ y. clash y refl)
+
+takesH-act : (op line : ℕ) → takesH (standing op line) ≡ true → actAt op line ≡ TakeH
+takesH-act zero line x = clash x refl
+takesH-act (suc zero) line x = rw (one-line 1 line x)
+takesH-act (suc (suc zero)) line x = clash x refl
+takesH-act (suc (suc (suc zero))) line x = rw (one-line 1 line x)
+takesH-act (suc (suc (suc (suc zero)))) line x = rw (one-line 1 line x)
+takesH-act (suc (suc (suc (suc (suc op))))) line x = clash x refl
+
+takesN-act : (op line : ℕ) → takesN (standing op line) ≡ true → actAt op line ≡ TakeN
+takesN-act zero line x = clash x refl
+takesN-act (suc zero) line x = rw (one-line 2 line x)
+takesN-act (suc (suc zero)) line x = rw (one-line 1 line x)
+takesN-act (suc (suc (suc zero))) line x = rw (one-line 2 line x)
+takesN-act (suc (suc (suc (suc zero)))) line x = rw (one-line 6 line x)
+takesN-act (suc (suc (suc (suc (suc op))))) line x = clash x refl
+
+other-locks : (r q : Thread) → (SameLock r q → ⊥) → sameTake r q ≡ false
+other-locks r q apart =
+    either-way (sameTake r q)
+    (λ x. absurd (apart (or-way (takesH r && takesH q) (takesN q && takesLock r (q .n)) x
+    (λ y. both-H (takesH-act (r .op) (r .line) (and-left (takesH r) _ y))
+    (takesH-act (q .op) (q .line) (and-right (takesH r) (takesH q) y)))
+    (λ y.
+    let l = and-right (takesN q) (takesLock r (q .n)) y in
+    both-N (takesN-act (r .op) (r .line) (and-left (takesN r) _ l)) (takesN-act (q .op) (q .line) (and-left (takesN q) _ y))
+    (eqb-true (r .n) (q .n) (and-right (takesN r) _ l))))))
+    (λ x. x)
+
+-- ---- either order
+
+-- a thread that can step is below T, so its number is a word
+can-word : (a : List ℕ) → Good a → (t : ℕ) → CanStep a t → t ≤ mostWord
+can-word a g t c =
+    let z = good-ranged a g .sizes in
+    either-way (ltb t (decode a .threads)) (λ b. let l = ltb-true t (decode a .threads) b in omega arith)
+    (λ b. let e = refusals a .step t .thread .1 (g .formed, b) in absurd (omega arith))
+
+can-decoded : (a : List ℕ) → Good a → (t : ℕ) → CanStep a t → CanStepStore (decode a) t
+can-decoded a g t c =
+    let e = number-decoded a (g .formed) (step t) in
+    le-leb (callStore (decode a) (step t) .number) FINISHED (omega arith)
+
+-- u after t: the bytes match the stores
+after-both : (a : List ℕ) → Good a → (t u : ℕ) → t ≤ mostWord → u ≤ mostWord →
+    SameReply (stepArea (stepArea a t .after) u) (callStore (callStore (decode a) (step t) .after) (step u))
+after-both a g t u wt wu =
+    let m = after-call a g (step t) wt in
+    subst (λ (s : Store). SameReply (stepArea (stepArea a t .after) u) (callStore s (step u))) (m .decoded)
+    (after-call (stepArea a t .after) (m .good) (step u) wu)
+
+pub grown-either-order : (a : List ℕ) → Grown a → (t u : ℕ) → (t ≡ u → ⊥) → CanStep a t → CanStep a u →
+    (SameLock (decode a .thread t) (decode a .thread u) → ⊥) → EitherOrder a t u
+grown-either-order a grown t u apart ct cu others =
+    let g = grown-good a grown in
+    let wt = can-word a g t ct in
+    let wu = can-word a g u cu in
+    let s =
+    either-order (decode a) (grown-inv a grown) t u apart (can-decoded a g t ct) (can-decoded a g u cu)
+    (other-locks (decode a .thread t) (decode a .thread u) others) in
+    let mt = after-call a g (step t) wt in
+    let mu = after-call a g (step u) wu in
+    let tu = after-both a g t u wt wu in
+    let ut = after-both a g u t wu wt in
+    record {
+      number = ut .number ∙ s .number ∙ sym (mt .number);
+      value = ut .value ∙ s .value ∙ sym (mt .value);
+      other-number = tu .number ∙ s .other-number ∙ sym (mu .number);
+      other-value = tu .value ∙ s .other-value ∙ sym (mu .value);
+      after =
+          decode-injective (stepArea (stepArea a t .after) u .after) (stepArea (stepArea a u .after) t .after) (tu .good)
+          (ut .good) (tu .decoded ∙ s .after ∙ sym (ut .decoded));
+    }

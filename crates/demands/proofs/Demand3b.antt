@@ -1,0 +1,85 @@
+-- DEMAND 3, second half, over areas of bytes: of an area that a format left which gave WENT, and of every schedule of words. (The first
+-- half is Demand3a.)
+--  * area-one-at-a-time: where all threads are idle after the schedule, the bytes are those that the operations leave which are run whole,
+--    one after the other, in the order of their last locks; and each thread's operations have answered the same.
+--  * area-answers-so-far: before that, finished or not, what a thread has finished with are the first of its answers in that run, and at
+--    most one is left, that of its open operation.
+--  * area-each-once: a thread's operations in that order are those that it has begun, each once, but for one at most that has no place
+--    yet; and all of them are finished, but for one at most that is open.
+-- The definitions are those of the crate meaning, specs/Demands. Assumes nothing.
+use mathlib.Core.Path.{_≡_, sym, ap, _∙_, subst}
+use mathlib.Core.Bool.{true}
+use mathlib.Core.List.{List, _++_}
+use Prim.Native.Nat.{ℕ}
+use Rattle.meaning.specs.Store.{Store}
+use Rattle.meaning.specs.Call.{Entry, callStore, isIdle}
+use Rattle.meaning.specs.Schedule.{Answered, run, order, finishedBy, serial}
+use Rattle.meaning.specs.Demands.{ofThread, ops, answeredOps, pending, placedOp, Owed, EachOnce, one-by-one, OneAtATime, AnswersSoFar}
+use Rattle.meaning.proofs.OneAtATime.{one-at-a-time, answers-so-far}
+use Rattle.meaning.proofs.OneAtATime.EachOnce.{each-once}
+use Rattle.store.specs.Area.{decode}
+use Rattle.store.specs.Calls.{callArea, Formatted}
+use Rattle.store.proofs.Range.{Good, decode-injective, formatted-good, formatted-fresh}
+use Rattle.demands.specs.RefusalTables.{rests}
+use Rattle.demands.specs.History.{AllWords}
+use Rattle.demands.proofs.Bridge.{run-good, run-decoded, order-decoded, finishedBy-decoded}
+use Rattle.demands.proofs.History.{areas-follow, serial-words}
+
+module _ (a : List ℕ) (f : Formatted a) (w : List Entry) (x : AllWords w) where
+  good : Good a
+  good = formatted-good a f
+
+  -- the whole operations one after the other
+  abbrev wholes : List Entry
+  wholes = one-by-one callArea decode a w
+
+  wholes-words : AllWords wholes
+  wholes-words = serial-words a good w x
+
+  wholes-decoded : wholes ≡ one-by-one callStore (λ s. s) (decode a) w
+  wholes-decoded = ap serial (order-decoded a good w x)
+
+  wholes-finished : (u : ℕ) → finishedBy callArea decode a u wholes ≡
+      finishedBy callStore (λ s. s) (decode a) u (one-by-one callStore (λ s. s) (decode a) w)
+  wholes-finished u =
+      finishedBy-decoded a good u wholes wholes-words
+      ∙ ap (λ (v : List Entry). finishedBy callStore (λ s. s) (decode a) u v) wholes-decoded
+
+  pub area-one-at-a-time : ((u : ℕ) → rests (run callArea a w) u ≡ true) → OneAtATime callArea decode a w
+  area-one-at-a-time idle =
+      let left = run-decoded a good w x in
+      let O =
+      formatted-fresh a f (λ s. ((u : ℕ) → isIdle (run callStore s w .thread u) ≡ true) → OneAtATime callStore (λ s. s) s w)
+      (λ t n p d limits. one-at-a-time t n p d limits w)
+      (λ u. subst (λ (s : Store). isIdle (s .thread u) ≡ true) left (idle u)) in
+      record {
+        leaves =
+            decode-injective (run callArea a w) (run callArea a wholes) (run-good a good w x)
+            (run-good a good wholes wholes-words)
+            (left ∙ O .leaves
+            ∙ sym (run-decoded a good wholes wholes-words ∙ ap (λ (v : List Entry). run callStore (decode a) v) wholes-decoded));
+        answers = λ u. finishedBy-decoded a good u w x ∙ O .answers u ∙ sym (wholes-finished u);
+      }
+
+  pub area-answers-so-far : (u : ℕ) → AnswersSoFar callArea decode a w u
+  area-answers-so-far u =
+      let A =
+      formatted-fresh a f (λ s. AnswersSoFar callStore (λ s. s) s w u) (λ t n p d limits. answers-so-far t n p d limits w u) in
+      record {
+        rest-owed = A .rest-owed;
+        owed = subst (λ (s : Store). Owed s u (A .rest-owed)) (sym (run-decoded a good w x)) (A .owed);
+        answers =
+            wholes-finished u ∙ A .answers
+            ∙ ap (λ (l : List Answered). l ++ A .rest-owed) (sym (finishedBy-decoded a good u w x));
+      }
+
+  pub area-each-once : (u : ℕ) → EachOnce callArea decode a w u
+  area-each-once u =
+      record {
+        begun-once =
+            areas-follow a f w x (λ h. h .begun u ≡ ofThread u (h .order) ++ pending u (h .left))
+            (λ t n p d limits. each-once t n p d limits w u .begun-once);
+        finished-once =
+            areas-follow a f w x (λ h. ops (ofThread u (h .order)) ≡ answeredOps (h .finished u) ++ placedOp u (h .left))
+            (λ t n p d limits. each-once t n p d limits w u .finished-once);
+      }

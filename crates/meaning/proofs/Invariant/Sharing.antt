@@ -1,0 +1,172 @@
+-- What the invariant says of who shares what: what is free where a line owns it, where headers and map agree, and that W5 and L3 find
+-- the free block that they ask for.
+-- Assumes nothing.
+use mathlib.Core.Path.{_≡_, refl, sym, _∙_, subst}
+use mathlib.Core.Bool.{Bool, true, false, not, _&&_, _||_, and-true}
+use mathlib.Core.Logic.{inl, inr}
+use Prim.Native.Nat.{ℕ, _+_, _<_}
+use native.Mathlib.Omega.{arith}
+use lib.Dec.{eqb, ltb}
+use borrow.Author.Tests.{eqb-true}
+use Rattle.meaning.specs.declared.Found.the-variants.{At}
+use Rattle.meaning.specs.Limits.{least, mostThreads, mostNumbers, mostBlocks, mostDistance, within, inLimits}
+use Rattle.meaning.specs.Store.{Store}
+use Rattle.meaning.specs.Holding.{none, free, heldBy, naming}
+use Rattle.meaning.specs.Choosing.{lowestFree, toBlock, leastWorn, fromBlock}
+use Rattle.meaning.proofs.Base.Words.{same, either-way, clash, and-left, and-right, or-way, within-true, free-held, held-once, alone-free, free-none, naming-once, naming-not-none}
+use Rattle.meaning.proofs.Invariant.{holdsH, holdsN, ownsHeaders, ownsP, ownsQ, n-on-p, n-on-q, p-free, q-free, p-headed, q-headed, p-astray, q-astray, If, leadsAstray, GuardsContent, Back, Astray, Inv}
+use Rattle.meaning.proofs.Invariant.Keeping.{up}
+use Rattle.meaning.proofs.Base.Searches.{crowded, finds, finds-nobody, Lowest, lowest-finds, Best, best-finds}
+
+-- there are more blocks than numbers, and some number
+pub limits-numbers-blocks : (t n p d : ℕ) → inLimits t n p d ≡ true → (n < p) × (0 < n)
+limits-numbers-blocks t n p d l =
+    let three = and-left _ (within least mostDistance d) l in
+    let two = and-left _ (within (n + 1) mostBlocks p) three in
+    let blocks =
+    within-true (n + 1) mostBlocks p (and-right (within least mostThreads t && within least mostNumbers n) _ three) in
+    let numbers = within-true least mostNumbers n (and-right (within least mostThreads t) _ two) in
+    omega arith
+
+-- the fact of a row whose flag is up
+pub fact : (b : Bool) (A : Type 0) → b ≡ true → If b A → A
+fact true A x f = f
+fact false A x f = clash x refl
+
+-- why v may own block m: its header is free and v owns the headers, or it names a number whose lock v holds
+data Owned (s : Store) (v m : ℕ) : Type 0 where
+  as-free : s .header m ≡ none → heldBy v (s .owner) ≡ true → Owned s v m
+  as-headed : (k : ℕ) → s .header m ≡ naming k → heldBy v (s .locks k) ≡ true → Owned s v m
+
+module _ (s : Store) (I : Inv s) where
+  pub numbers-blocks : (s .numbers < s .blocks) × (0 < s .numbers)
+  numbers-blocks = limits-numbers-blocks (s .threads) (s .numbers) (s .blocks) (s .distance) (I .limits)
+
+  -- ---- blocks
+
+  -- through register p or q: f, d and o are the flags for "its header is free", "its header names n" and "n is mapped to it"
+  owned-through : (v n m : ℕ) (f d o : Bool) → If f (s .header m ≡ none) → If d (s .header m ≡ naming n) →
+      If o (s .map n ≡ naming m) → (f && heldBy v (s .owner) || (d || o) && heldBy v (s .locks n)) ≡ true → Owned s v m
+  owned-through v n m f d o empty headed on x =
+      or-way (f && heldBy v (s .owner)) _ x (λ y. as-free (fact f _ (and-left f _ y) empty) (and-right f _ y))
+      (λ y. as-headed n
+      (or-way d o (and-left (d || o) _ y) (λ z. fact d _ z headed) (λ z. I .agrees .headed n m (fact o _ z on)))
+      (and-right (d || o) _ y))
+
+  owned : (v m : ℕ) → heldBy v (s .own m) ≡ true → Owned s v m
+  owned v m x =
+      let r = s .thread v in
+      let f = I .facts v in
+      let mine : heldBy v (s .locks (r .n)) ≡ holdsN r = I .holds v .locks (r .n) ∙ rw (same (r .n)) (and-true (holdsN r)) in
+      or-way (ownsQ r && eqb (r .q) m) (ownsP r && eqb (r .p) m) (sym (I .holds v .own m) ∙ x)
+      (λ y. subst (Owned s v) (eqb-true (r .q) m (and-right (ownsQ r) _ y))
+      (owned-through v (r .n) (r .q) (q-free r) (q-headed r) (n-on-q r) (f .free-q) (f .headed-q) (f .on-q)
+      (rw (I .holds v .owner, mine)
+      (up ownsQ (λ r. q-free r && ownsHeaders r || (q-headed r || n-on-q r) && holdsN r) refl r (I .stands v)
+      (and-left (ownsQ r) _ y)))))
+      (λ y. subst (Owned s v) (eqb-true (r .p) m (and-right (ownsP r) _ y))
+      (owned-through v (r .n) (r .p) (p-free r) (p-headed r) (n-on-p r) (f .free-p) (f .headed-p) (f .on-p)
+      (rw (I .holds v .owner, mine)
+      (up ownsP (λ r. p-free r && ownsHeaders r || (p-headed r || n-on-p r) && holdsN r) refl r (I .stands v)
+      (and-left (ownsP r) _ y)))))
+
+  -- a block that t doesn't own is free where t has the lock of the number mapped to it
+  pub mapped-block-free : (t n m : ℕ) → s .map n ≡ naming m → heldBy t (s .locks n) ≡ true → heldBy t (s .own m) ≡ false →
+      free (s .own m) ≡ true
+  mapped-block-free t n m on lock own = alone-free t (s .own m) own (λ v x. alone v (owned v m x))
+    where
+      alone : (v : ℕ) → Owned s v m → t ≡ v
+      alone v (as-free f _) = naming-not-none n (s .header m) (I .agrees .headed n m on) f
+      alone v (as-headed k h l) =
+          held-once t v (s .locks n) lock (rw (naming-once n k (sym (I .agrees .headed n m on) ∙ h)) l)
+
+  -- and where its header is free and t owns the headers
+  pub free-block-free : (t m : ℕ) → s .header m ≡ none → heldBy t (s .owner) ≡ true → heldBy t (s .own m) ≡ false →
+      free (s .own m) ≡ true
+  free-block-free t m empty owner own = alone-free t (s .own m) own (λ v x. alone v (owned v m x))
+    where
+      alone : (v : ℕ) → Owned s v m → t ≡ v
+      alone v (as-free _ o) = held-once t v (s .owner) owner o
+      alone v (as-headed k h _) = naming-not-none k (s .header m) h empty
+
+  -- who owns a block that is headed by a number whose lock it holds may write its content
+  pub content-guarded : (t n m : ℕ) → s .header m ≡ naming n → heldBy t (s .locks n) ≡ true → heldBy t (s .own m) ≡ true →
+      GuardsContent s t m
+  content-guarded t n m headed lock own =
+      record {
+        own = own;
+        locks = λ k on. rw (naming-once k n (sym (I .agrees .headed k m on) ∙ headed)) lock;
+      }
+
+  -- ---- headers
+
+  -- whoever holds H and doesn't own the headers finds them free
+  pub owner-free : (t : ℕ) → heldBy t (s .lock) ≡ true → heldBy t (s .owner) ≡ false → free (s .owner) ≡ true
+  owner-free t lock owner =
+      alone-free t (s .owner) owner
+      (λ v x. held-once t v (s .lock) lock
+      (I .holds v .lock ∙ up ownsHeaders holdsH refl (s .thread v) (I .stands v) (sym (I .holds v .owner) ∙ x)))
+
+  -- only the headers' owner leads a block astray
+  astray-owner : (v m : ℕ) → leadsAstray (s .thread v) m ≡ true → heldBy v (s .owner) ≡ true
+  astray-owner v m x =
+      let r = s .thread v in
+      I .holds v .owner ∙
+      or-way (q-astray r && eqb (r .q) m) (p-astray r && eqb (r .p) m) x
+      (λ y. up q-astray ownsHeaders refl r (I .stands v) (and-left (q-astray r) _ y))
+      (λ y. up p-astray ownsHeaders refl r (I .stands v) (and-left (p-astray r) _ y))
+
+  -- headers and map agree where no block is astray
+  settled : (m k : ℕ) → (Astray s m → ⊥) → s .header m ≡ naming k → s .map k ≡ naming m
+  settled m k straight x = go (I .mapped m k x)
+    where
+      go : Back (s .map) m k (Astray s m) → s .map k ≡ naming m
+      go (inl y) = y
+      go (inr a) = absurd (straight a)
+
+  -- so where nobody owns the headers
+  pub settled-free : free (s .owner) ≡ true → (m k : ℕ) → s .header m ≡ naming k → s .map k ≡ naming m
+  settled-free f m k = settled m k (λ a. clash (astray-owner (a .who) m (a .leads)) (free-held (a .who) (s .owner) f))
+
+  -- and where their owner leads none astray
+  pub settled-owner : (t : ℕ) → heldBy t (s .owner) ≡ true → ((m : ℕ) → leadsAstray (s .thread t) m ≡ false) →
+      (m k : ℕ) → s .header m ≡ naming k → s .map k ≡ naming m
+  settled-owner t owner straight m k =
+      settled m k
+      (λ a.
+      let z : a .who ≡ t = held-once (a .who) t (s .owner) (astray-owner (a .who) m (a .leads)) owner in
+      clash (rw z at (a .leads)) (straight m))
+
+  -- ---- what W5 and L3 find
+
+  module _ (t : ℕ) (owner : heldBy t (s .owner) ≡ true) (straight : (m : ℕ) → leadsAstray (s .thread t) m ≡ false) where
+    not-full : ((m : ℕ) → m < s .blocks → free (s .header m) ≡ false) → ⊥
+    not-full =
+        crowded (s .map) (s .header) (s .numbers) (s .blocks) (numbers-blocks .0) (I .agrees .header-below)
+        (settled-owner t owner straight)
+
+    pub lowest-free : (lowestFree (s .header) (s .blocks) < s .blocks) × (s .header (lowestFree (s .header) (s .blocks)) ≡ none)
+    lowest-free = go (lowest-finds (s .header) (s .blocks))
+      where
+        go : Lowest (s .header) (s .blocks) →
+            (lowestFree (s .header) (s .blocks) < s .blocks) × (s .header (lowestFree (s .header) (s .blocks)) ≡ none)
+        go (finds m b f e) = rw e (b, free-none (s .header m) f)
+        go (finds-nobody all _) = absurd (not-full all)
+
+    pub to-found : (m : ℕ) × (toBlock (s .header) (s .wear) (s .blocks) ≡ At m) × (m < s .blocks) × (s .header m ≡ none)
+    to-found = go (best-finds (λ k. free (s .header k)) (λ k m. ltb (s .wear m) (s .wear k)) (s .blocks))
+      where
+        go : Best (λ k. free (s .header k)) (λ k m. ltb (s .wear m) (s .wear k)) (s .blocks) →
+            (m : ℕ) × (toBlock (s .header) (s .wear) (s .blocks) ≡ At m) × (m < s .blocks) × (s .header m ≡ none)
+        go (finds m b f e) = (m, e, b, free-none (s .header m) f)
+        go (finds-nobody all _) = absurd (not-full all)
+
+  pub from-below : (to : ℕ) → to < s .blocks →
+      fromBlock (s .wear) (s .distance) to (leastWorn (s .header) (s .wear) (s .blocks)) < s .blocks
+  from-below to below = go (best-finds (λ k. not (free (s .header k))) (λ k m. ltb (s .wear k) (s .wear m)) (s .blocks))
+    where
+      go : Best (λ k. not (free (s .header k))) (λ k m. ltb (s .wear k) (s .wear m)) (s .blocks) →
+          fromBlock (s .wear) (s .distance) to (leastWorn (s .header) (s .wear) (s .blocks)) < s .blocks
+      go (finds m b f e) =
+          rw e (either-way (ltb (s .wear to) (s .wear m + s .distance)) (λ x. rw x below) (λ x. rw x b))
+      go (finds-nobody all e) = rw e below

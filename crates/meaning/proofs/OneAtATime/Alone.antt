@@ -1,0 +1,319 @@
+-- A thread alone: the store in which nobody but t is at work, `alone t s`. A step of t does there what it does in s; so a thread that has
+-- its place in the order comes there to what it comes to in s, and within as many steps as the longest program has lines.
+-- Assumes nothing.
+use mathlib.Core.Path.{_≡_, refl, sym, ap, _∙_, subst, fun-ext}
+use mathlib.Core.Bool.{Bool, true, false, cond}
+use mathlib.Core.List.{List, []}
+use Prim.Native.Nat.{ℕ, zero, suc, _+_, _<_}
+use native.Mathlib.Omega.{arith}
+use lib.Dec.{eqb, ltb, leb}
+use borrow.Author.Tests.{eqb-true, eqb-false, leb-true}
+use Rattle.meaning.specs.declared.Act.{Act}
+use Rattle.meaning.specs.declared.Act.the-variants.{Nothing, TakeH, ReleaseH, FinishH, TakeN, ReleaseN, FinishN, OwnHeaders, LetGoHeaders, Own, LetGo, GoIfMapped, GoIfUnmapped, EmptyIfUnmapped, GoIfFree, PickFree, Choose, ReadHeader, WriteHeaderN, WriteHeaderH, FreeHeader, EmptyContent, ReadContent, WriteContent, MapTo, Unmap}
+use Rattle.meaning.specs.declared.Thread.{Thread}
+use Rattle.meaning.specs.declared.Word.{Word}
+use Rattle.meaning.specs.declared.Word.the-variants.{Stay, Become}
+use Rattle.meaning.specs.declared.Update.{Update}
+use Rattle.meaning.specs.declared.Update.the-variants.{Keep, Put}
+use Rattle.meaning.specs.declared.Effect.{Effect}
+use Rattle.meaning.specs.declared.Verdict.the-variants.{Blocked, Fault}
+use Rattle.meaning.specs.Table.{upd}
+use Rattle.meaning.specs.Store.{Store, idle}
+use Rattle.meaning.specs.Holding.{none, free, by, heldBy}
+use Rattle.meaning.specs.Programs.{actAt}
+use Rattle.meaning.specs.Step.{block, perform, verdict, become, put, apply}
+use Rattle.meaning.specs.Call.{Reply, step, callStore, isIdle}
+use Rattle.meaning.specs.Schedule.{Answered, placed, run, finishedBy, steps, longest}
+use Rattle.meaning.proofs.Base.Words.{same, either-way, by-held, held-is, none-held, upd-same, upd-other}
+use Rattle.meaning.proofs.Invariant.{holdsH, holdsLock, ownsHeaders, ownsBlock, takesH, takesLock, Passes, takes, gives-up, Becomes, Puts, Guards, Inv}
+use Rattle.meaning.proofs.Invariant.Keeping.{everywhere}
+use Rattle.meaning.proofs.Lines.EveryLine.{idle-is}
+use Rattle.meaning.proofs.Progress.{inv-call, no-fault}
+use Rattle.meaning.proofs.EitherOrder.{Going, left-by, going-reply, going-moves, goes-unblocked}
+use Rattle.meaning.proofs.OneAtATime.Places.{went, over, Came, going-came, placed-going, placed-kept}
+use Rattle.meaning.proofs.OneAtATime.Settles.{cleared, stepped, stepped-is, answering, SettlesTo, rest, more}
+
+-- ---- what is said
+
+-- a lock or owner word, if it is t's
+abbrev mine : ℕ → ℕ → ℕ
+mine t w = cond (heldBy t w) w none
+
+abbrev pub alone : ℕ → Store → Store
+alone t s =
+    record {
+      threads = s .threads;
+      numbers = s .numbers;
+      blocks = s .blocks;
+      distance = s .distance;
+      lock = mine t (s .lock);
+      owner = mine t (s .owner);
+      thread = λ v. cond (eqb t v) (s .thread v) idle;
+      map = s .map;
+      locks = λ k. mine t (s .locks k);
+      header = s .header;
+      content = s .content;
+      wear = s .wear;
+      own = λ m. mine t (s .own m);
+    }
+
+-- ---- a step of a thread alone
+
+mine-held : (t w : ℕ) → heldBy t (mine t w) ≡ heldBy t w
+mine-held t w = either-way (heldBy t w) (λ h. rw (h, h)) (λ h. rw (h, none-held t))
+
+mine-free : (t w : ℕ) → free w ≡ true → free (mine t w) ≡ true
+mine-free t w f = either-way (heldBy t w) (λ h. rw h f) (λ h. rw h)
+
+module _ (s : Store) (t : ℕ) (r : Thread) where
+  abbrev as-in : Act → Type 0
+  as-in a = perform a (alone t s) t r ≡ perform a s t r
+
+  perform-alone : (a : Act) → (perform a s t r ≡ Blocked → ⊥) → (perform a s t r ≡ Fault → ⊥) → as-in a
+  perform-alone Nothing b x = refl
+  perform-alone TakeH b x = either-way (free (s .lock)) (λ f. rw (f, mine-free t (s .lock) f)) (λ f. absurd (b (rw f)))
+  perform-alone ReleaseH b x = rw (mine-held t (s .lock))
+  perform-alone (FinishH a) b x = rw (mine-held t (s .lock))
+  perform-alone TakeN b x =
+      either-way (free (s .locks (r .n))) (λ f. rw (f, mine-free t (s .locks (r .n)) f)) (λ f. absurd (b (rw f)))
+  perform-alone ReleaseN b x = rw (mine-held t (s .locks (r .n)))
+  perform-alone (FinishN a) b x = rw (mine-held t (s .locks (r .n)))
+  perform-alone OwnHeaders b x =
+      either-way (free (s .owner)) (λ f. rw (f, mine-free t (s .owner) f)) (λ f. absurd (x (rw f)))
+  perform-alone LetGoHeaders b x = rw (mine-held t (s .owner))
+  perform-alone (Own c) b x =
+      either-way (free (s .own (block c r))) (λ f. rw (f, mine-free t (s .own (block c r)) f)) (λ f. absurd (x (rw f)))
+  perform-alone (LetGo c) b x = rw (mine-held t (s .own (block c r)))
+  perform-alone (GoIfMapped l) b x = refl
+  perform-alone (GoIfUnmapped l) b x = refl
+  perform-alone (EmptyIfUnmapped l) b x = refl
+  perform-alone (GoIfFree l) b x = refl
+  perform-alone PickFree b x = rw (mine-held t (s .owner))
+  perform-alone Choose b x = rw (mine-held t (s .owner))
+  perform-alone ReadHeader b x = rw (mine-held t (s .owner))
+  perform-alone WriteHeaderN b x = rw (mine-held t (s .owner), mine-held t (s .own (r .p)))
+  perform-alone WriteHeaderH b x = rw (mine-held t (s .owner), mine-held t (s .own (r .q)))
+  perform-alone FreeHeader b x = rw (mine-held t (s .owner), mine-held t (s .own (r .p)))
+  perform-alone EmptyContent b x = rw (mine-held t (s .own (r .p)))
+  perform-alone ReadContent b x = rw (mine-held t (s .own (r .p)))
+  perform-alone (WriteContent c) b x = rw (mine-held t (s .own (block c r)))
+  perform-alone (MapTo c) b x = refl
+  perform-alone Unmap b x = refl
+
+passes-mine : {about : Type 0} (t w w′ : ℕ) → Passes about t w w′ → w′ ≡ mine t w′
+passes-mine t w w′ (takes _ _ e) = rw (e, by-held t)
+passes-mine t w w′ (gives-up _ e) = rw (e, none-held t)
+
+word-alone : (about : Type 0) (t : ℕ) (c : Word) (w : ℕ) → Becomes c (Passes about t w) → become c (mine t w) ≡ mine t (become c w)
+word-alone about t Stay w x = refl
+word-alone about t (Become w′) w x = passes-mine t w w′ x
+
+entry-alone : (about : ℕ → Type 0) (t : ℕ) (c : Update) (f : ℕ → ℕ) → Puts c (λ k. Passes (about k) t (f k)) →
+    put c (λ k. mine t (f k)) ≡ (λ k. mine t (put c f k))
+entry-alone about t Keep f x = refl
+entry-alone about t (Put i w) f x =
+    fun-ext (λ k. either-way (eqb i k) (λ e. rw e (passes-mine t (f i) w x)) (λ e. rw e))
+
+-- t's new record, where nobody else is at work
+pub threads-alone : (t : ℕ) (f g : ℕ → Thread) (r′ : Thread) → g t ≡ r′ →
+    upd (λ v. cond (eqb t v) (f v) idle) t r′ ≡ (λ v. cond (eqb t v) (g v) idle)
+threads-alone t f g r′ is =
+    fun-ext (λ v. either-way (eqb t v) (λ e. rw (e, ← eqb-true t v e) (sym is)) (λ e. rw e))
+
+apply-alone : (s : Store) (t : ℕ) (r r′ : Thread) (e : Effect) → Guards s t r e →
+    apply (alone t s) t r′ e ≡ alone t (apply s t r′ e)
+apply-alone s t r r′ e G =
+    λ i. record {
+      threads = s .threads;
+      numbers = s .numbers;
+      blocks = s .blocks;
+      distance = s .distance;
+      lock = word-alone (takesH r ≡ true) t (e .lock) (s .lock) (G .lock) i;
+      owner = word-alone Unit t (e .owner) (s .owner) (G .owner) i;
+      thread = threads-alone t (s .thread) (upd (s .thread) t r′) r′ (upd-same (s .thread) t r′) i;
+      map = put (e .map) (s .map);
+      locks = entry-alone (λ k. takesLock r k ≡ true) t (e .locks) (s .locks) (G .locks) i;
+      header = put (e .header) (s .header);
+      content = put (e .content) (s .content);
+      wear = put (e .wear) (s .wear);
+      own = entry-alone (λ m. Unit) t (e .own) (s .own) (G .own) i;
+    }
+
+module _ (s : Store) (I : Inv s) (t : ℕ) (g : Going s t) where
+  abbrev going-alone : Going (alone t s) t
+  going-alone =
+      record {
+        below = g .below;
+        busy = rw (same t) (g .busy);
+        number = g .number;
+        value = g .value;
+        becomes = g .becomes;
+        effect = g .effect;
+        told′ =
+            rw (
+              same t,
+              perform-alone s t (s .thread t) (actAt (s .thread t .op) (s .thread t .line))
+                  (goes-unblocked s t (verdict s t) (g .number) (g .value) (g .becomes) (g .effect) (g .told′))
+                  (no-fault s I t (g .below) (g .busy)),
+            ) (g .told′);
+      }
+
+  pub step-alone : callStore (alone t s) (step t) ≡
+      record { number = g .number; value = g .value; after = alone t (left-by s t g) }
+  step-alone =
+      going-reply (alone t s) t going-alone
+      ∙ ap (λ (x : Store). record { number = g .number; value = g .value; after = x })
+      (apply-alone s t (s .thread t) (g .becomes) (g .effect) (going-moves s t I g .guards))
+
+  -- the answer is the same
+  pub answering-alone : (u : ℕ) (l : List Answered) → answering (alone t s) t u l ≡ answering s t u l
+  answering-alone u l = rw (step-alone, going-reply s t g, same t)
+
+  pub stepped-alone : stepped (alone t s) t ≡ alone t (stepped s t)
+  stepped-alone =
+      ap (λ (x : Reply Store). x .after) step-alone
+      ∙ sym (ap (alone t) (stepped-is s t g))
+
+-- ---- a thread at rest
+
+-- its steps are refused
+pub idle-steps : (x : Store) (t : ℕ) → isIdle (x .thread t) ≡ true →
+    callStore x (step t) .after ≡ x
+idle-steps x t rests = either-way (ltb t (x .threads)) (λ b. rw (b, rests)) (λ b. rw b)
+
+idle-unanswered : (x : Store) (t : ℕ) → isIdle (x .thread t) ≡ true → (u : ℕ) (l : List Answered) → answering x t u l ≡ l
+idle-unanswered x t rests u l = either-way (ltb t (x .threads)) (λ b. rw (b, rests)) (λ b. rw b)
+
+idle-run : (k : ℕ) (x : Store) (t : ℕ) → isIdle (x .thread t) ≡ true → run callStore x (steps k t []) ≡ x
+idle-run zero x t rests = refl
+idle-run (suc k) x t rests = ap (λ (y : Store). run callStore y (steps k t [])) (idle-steps x t rests) ∙ idle-run k x t rests
+
+idle-answers : (k : ℕ) (x : Store) (t : ℕ) → isIdle (x .thread t) ≡ true → (u : ℕ) →
+    finishedBy callStore (λ s. s) x u (steps k t []) ≡ []
+idle-answers zero x t rests u = refl
+idle-answers (suc k) x t rests u = idle-unanswered x t rests u _
+    ∙ ap (λ (y : Store). finishedBy callStore (λ s. s) y u (steps k t [])) (idle-steps x t rests) ∙ idle-answers k x t rests u
+
+-- t alone is at work, and has no number's lock and no block
+abbrev pub with-threads : Store → (ℕ → Thread) → ℕ → ℕ → Store
+with-threads s f l o =
+    record {
+      threads = s .threads;
+      numbers = s .numbers;
+      blocks = s .blocks;
+      distance = s .distance;
+      lock = l;
+      owner = o;
+      thread = f;
+      map = s .map;
+      locks = λ _. none;
+      header = s .header;
+      content = s .content;
+      wear = s .wear;
+      own = λ _. none;
+    }
+
+abbrev pub solo : Store → ℕ → Thread → ℕ → ℕ → Store
+solo s t r l o = with-threads s (λ v. cond (eqb t v) r idle) l o
+
+-- t's words, from what its record says
+mine-if : (t w : ℕ) (flag : Bool) → heldBy t w ≡ flag → mine t w ≡ cond flag (by t) none
+mine-if t w true h = rw h (held-is t w h)
+mine-if t w false h = rw h
+
+pub alone-solo : (s : Store) → Inv s → (t : ℕ) (r : Thread) → s .thread t ≡ r → ((k : ℕ) → holdsLock r k ≡ false) →
+    ((m : ℕ) → ownsBlock r m ≡ false) →
+    alone t s ≡ solo s t r (cond (holdsH r) (by t) none) (cond (ownsHeaders r) (by t) none)
+alone-solo s I t r is locks own =
+    λ i. record {
+      threads = s .threads;
+      numbers = s .numbers;
+      blocks = s .blocks;
+      distance = s .distance;
+      lock = mine-if t (s .lock) (holdsH r) (I .holds t .lock ∙ ap holdsH is) i;
+      owner = mine-if t (s .owner) (ownsHeaders r) (I .holds t .owner ∙ ap ownsHeaders is) i;
+      thread = threads i;
+      map = s .map;
+      locks = λ k. mine-if t (s .locks k) false (I .holds t .locks k ∙ ap (λ (r : Thread). holdsLock r k) is ∙ locks k) i;
+      header = s .header;
+      content = s .content;
+      wear = s .wear;
+      own = λ m. mine-if t (s .own m) false (I .holds t .own m ∙ ap (λ (r : Thread). ownsBlock r m) is ∙ own m) i;
+    }
+  where
+    threads : _≡_ {A = ℕ → Thread} (λ v. cond (eqb t v) (s .thread v) idle) (λ v. cond (eqb t v) r idle)
+    threads = fun-ext (λ v. either-way (eqb t v) (λ e. rw (e, ← eqb-true t v e) is) (λ e. rw e))
+
+alone-idle : (s : Store) → Inv s → (t : ℕ) → s .thread t ≡ idle → alone t s ≡ cleared s
+alone-idle s I t is =
+    alone-solo s I t idle is (λ k. refl) (λ m. refl)
+    ∙ ap (λ (f : ℕ → Thread). with-threads s f none none)
+    (fun-ext (λ v. either-way (eqb t v) (λ e. rw e) (λ e. rw e)))
+
+-- ---- a thread that has its place runs to its end
+
+-- t is at rest, or has its place and no more lines before it than k
+pub data EndsWithin (t k : ℕ) (s : Store) : Type 0 where
+  resting : isIdle (s .thread t) ≡ true → EndsWithin t k s
+  going : placed s (s .thread t) ≡ true → longest < s .thread t .line + k → EndsWithin t k s
+
+-- nobody but t has a place
+abbrev pub Nobody-but : ℕ → Store → Type 0
+Nobody-but t s = (v : ℕ) → (t ≡ v → ⊥) → placed s (s .thread v) ≡ false
+
+-- what a thread alone comes to in k steps, and answers
+abbrev pub ends-as : ℕ → ℕ → Store → Store
+ends-as k t x = run callStore x (steps k t [])
+
+abbrev pub ends-with : ℕ → ℕ → Store → ℕ → List Answered
+ends-with k t x u = finishedBy callStore (λ s. s) x u (steps k t [])
+
+pub lines-end : (s : Store) → Inv s → (t : ℕ) → s .thread t .line < longest + 1
+lines-end s I t =
+    let b = leb-true (s .thread t .line) longest (everywhere (λ op line. leb line longest) refl (s .thread t) (I .stands t)) in
+    omega arith
+
+idle-settles : (k : ℕ) (s : Store) → Inv s → (t : ℕ) → Nobody-but t s → isIdle (s .thread t) ≡ true →
+    SettlesTo s (ends-as k t (alone t s)) (ends-with k t (alone t s))
+idle-settles k s I t nobody rests =
+    let is = idle-is (s .thread t) (I .stands t) rests in
+    let rests′ : isIdle (alone t s .thread t) ≡ true = rw (same t) rests in
+    let nobody′ : (v : ℕ) → placed s (s .thread v) ≡ false =
+    λ v. either-way (eqb t v) (λ e. rw (← eqb-true t v e, is)) (λ e. nobody v (eqb-false t v e)) in
+    rest nobody′
+    (idle-run k (alone t s) t rests′ ∙ alone-idle s I t is)
+    (idle-answers k (alone t s) t rests′)
+
+-- one step more
+step-settles : (k : ℕ) (s : Store) → Inv s → (t : ℕ) → placed s (s .thread t) ≡ true →
+    SettlesTo (stepped s t) (ends-as k t (alone t (stepped s t))) (ends-with k t (alone t (stepped s t))) →
+    SettlesTo s (ends-as (suc k) t (alone t s)) (ends-with (suc k) t (alone t s))
+step-settles k s I t has S =
+    let g = placed-going s I t has in
+    more t has (subst (λ (x : Store). SettlesTo (stepped s t) (ends-as k t x) (ends-with k t x)) (sym (stepped-alone s I t g)) S)
+    (λ u. answering-alone s I t g u (ends-with k t (stepped (alone t s) t) u))
+
+-- after its step it is at rest, or has a line less before it
+next-within : (k : ℕ) (s : Store) (t : ℕ) → placed s (s .thread t) ≡ true → longest < s .thread t .line + suc k → (g : Going s t) →
+    Came s t (g .number) (g .becomes) (g .effect) → EndsWithin t k (left-by s t g)
+next-within k s t has b g (went _ w) =
+    going (rw (upd-same (s .thread) t (g .becomes)) (w .place ∙ rw has))
+    (rw (upd-same (s .thread) t (g .becomes)) (let up = w .up in omega arith))
+next-within k s t has b g (over _ is _) = resting (rw (upd-same (s .thread) t (g .becomes), is))
+
+pub next-nobody : (s : Store) → Inv s → (t : ℕ) (g : Going s t) → Nobody-but t s → Nobody-but t (left-by s t g)
+next-nobody s I t g nobody v apart =
+    rw (upd-other (s .thread) t v (g .becomes) apart)
+    (placed-kept s I t (g .becomes) (g .effect) (going-moves s t I g) v apart ∙ nobody v apart)
+
+pub placed-settles : (k : ℕ) (s : Store) → Inv s → (t : ℕ) → Nobody-but t s → EndsWithin t k s →
+    SettlesTo s (ends-as k t (alone t s)) (ends-with k t (alone t s))
+placed-settles zero s I t nobody (resting x) = idle-settles zero s I t nobody x
+placed-settles zero s I t nobody (going has b) = absurd (let e = lines-end s I t in omega arith)
+placed-settles (suc k) s I t nobody (resting x) = idle-settles (suc k) s I t nobody x
+placed-settles (suc k) s I t nobody (going has b) =
+    let g = placed-going s I t has in
+    let to : left-by s t g ≡ stepped s t = sym (stepped-is s t g) in
+    step-settles k s I t has (placed-settles k (stepped s t) (inv-call s I (step t)) t
+    (subst (Nobody-but t) to (next-nobody s I t g nobody))
+    (subst (EndsWithin t k) to (next-within k s t has b g (going-came s I t g))))

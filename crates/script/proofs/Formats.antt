@@ -16,7 +16,7 @@ use Rattle.store.specs.Layout.{size}
 use Rattle.store.specs.Area.{encode}
 use Rattle.store.specs.Calls.{formatArea}
 use Rattle.script.specs.Output.{unlessWent, formatNew}
-use Rattle.script.specs.Places.{largest}
+use Rattle.script.specs.Positions.{largest}
 
 -- ---- the largest area
 

@@ -14,7 +14,7 @@ use Rattle.store.specs.Layout.{size}
 use Rattle.store.specs.Area.{Bytes}
 use Rattle.store.specs.Calls.{formatArea}
 use Rattle.script.specs.Output.{replied, unlessWent, formatNew}
-use Rattle.script.specs.Places.{wordRange, largest}
+use Rattle.script.specs.Positions.{wordRange, largest}
 use Rattle.script.proofs.Values.{packed-number, packed-value}
 use Rattle.script.proofs.Formats.{format-value, format-refused, format-new}
 

@@ -25,7 +25,7 @@ use Rattle.meaning.specs.Step.{block, touches, heads, moved, answer, choosing, 
 use Rattle.meaning.specs.Call.{Outcome, refused, left, reply, check, isIdle, told}
 use Rattle.store.specs.Layout.{tAt, threadsAt, threadWords}
 use Rattle.store.specs.Area.{Bytes, word, threadFrom, decode, wellFormed, encode}
-use Rattle.script.specs.Places.{wordRange}
+use Rattle.script.specs.Positions.{wordRange}
 use Rattle.store.specs.Calls.{beginArea, stepArea}
 
 -- ---- number and value taken apart

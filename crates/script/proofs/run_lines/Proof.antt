@@ -9,7 +9,7 @@ use lib.ListN.{length, take, drop}
 use Rattle.script.specs.Syntax.{command, line, lines}
 use Rattle.script.specs.Printing.{mostPrinted}
 use Rattle.script.specs.Output.{heard}
-use Rattle.script.specs.Places.{cutAt, Inside, turned, Left}
+use Rattle.script.specs.Positions.{cutAt, Inside, turned, Left}
 use Rattle.script.proofs.Writing.{wrote-nothing}
 use Rattle.script.proofs.Running.{Going, going-start, going-room, going-on, answers-stopped}
 use Rattle.script.proofs.run_lines.Statement.{statement}

@@ -3,8 +3,8 @@
 use mathlib.Core.List.{List}
 use Prim.Native.Nat.{ℕ, _+_, _-_, _/_, _%_, _≤_, _<_}
 use lib.ListN.{length, take, drop}
-use Rattle.meaning.specs.Limits.{mostWord, mostThreads, mostNumbers, mostBlocks}
-use Rattle.store.specs.Layout.{size}
+use Rattle.meaning.specs.Limits.{mostWord}
+use Rattle.store.specs.Layout.{largest}
 use Rattle.script.specs.declared.Field.{Field}
 use Rattle.script.specs.declared.Field.the-variants as fields
 use Rattle.script.specs.declared.Line.{Line}
@@ -34,10 +34,6 @@ Inside at size cuts.Torn = Unit
 Inside at size (cuts.Ending e) = (at ≤ e) × (e < size)
 
 -- ---- the store at the front of a buffer
-
--- "10,712 at most": the length of an area with all sizes at their limits
-abbrev pub largest : ℕ
-largest = size mostThreads mostNumbers mostBlocks
 
 -- the first so many bytes of a buffer are the store's area; the buffer has room for any
 pub record Held (buffer : List ℕ) (used : ℕ) : Type 0 where

@@ -1,4 +1,5 @@
--- The laws that the door's proofs cite, and that its contracts determine what comes back.
+-- The laws that the calls' proofs cite, that their contracts determine what comes back, and that a value is a word.
 pub mod Replies
 pub mod Fresh
 pub mod Determined
+pub mod Values

@@ -1,38 +1,20 @@
--- The format of a new store: a format answers by its numbers and the length of the area alone, and no area within the limits is longer
--- than the largest. Assumes nothing.
-use mathlib.Core.Bool.{Bool, true, false, cond, _&&_}
+-- The format of a new store: a format answers by its numbers and the length of the area alone. Assumes nothing.
+use mathlib.Core.Bool.{Bool, true, false, cond}
 use mathlib.Core.Path.{_≡_, refl}
 use mathlib.Core.List.{List}
-use Prim.Native.Nat.{ℕ, _+_, _≤_}
-use native.Mathlib.Omega.{arith}
+use Prim.Native.Nat.{ℕ}
 use lib.ListN.{length, length-replicate}
-use borrow.Author.Tests.{leb-true, eq-eqb, le-leb}
+use borrow.Author.Tests.{eq-eqb, le-leb}
 use lib.Dec.{leb, eqb}
 use Rattle.meaning.specs.Numbers.{WENT, SHAPE, LIMITS}
-use Rattle.meaning.specs.Limits.{inLimits, within, least, mostThreads, mostNumbers, mostBlocks, mostDistance}
+use Rattle.meaning.specs.Limits.{inLimits}
 use Rattle.meaning.specs.Store.{fresh}
 use Rattle.meaning.specs.Call.{Reply, left, reply, check}
-use Rattle.store.specs.Layout.{size}
+use Rattle.store.specs.Layout.{size, largest}
 use Rattle.store.specs.Area.{encode}
 use Rattle.store.specs.Calls.{formatArea}
+use Rattle.store.proofs.Sound.{size-most}
 use Rattle.script.specs.Output.{unlessWent, formatNew}
-use Rattle.script.specs.Places.{largest}
-
--- ---- the largest area
-
-both : (a b : Bool) → a && b ≡ true → (a ≡ true) × (b ≡ true)
-both true b h = (refl, h)
-both false b h = let z : _≡_ {A = ℕ} 0 1 = cc in absurd (omega arith)
-
-most : (low high x : ℕ) → within low high x ≡ true → x ≤ high
-most low high x h = leb-true _ _ (both (leb low x) (leb x high) h .1)
-
-pub limits-size : (t n p d : ℕ) → inLimits t n p d ≡ true → size t n p ≤ largest
-limits-size t n p d h =
-    let tnp = both (within least mostThreads t && within least mostNumbers n && within (n + 1) mostBlocks p) (within least mostDistance d) h .0 in
-    let tn = both (within least mostThreads t && within least mostNumbers n) (within (n + 1) mostBlocks p) tnp in
-    let each = both (within least mostThreads t) (within least mostNumbers n) (tn .0) in
-    omega (arith, most least mostThreads t (each .0), most least mostNumbers n (each .1), most (n + 1) mostBlocks p (tn .1))
 
 -- ---- a format
 
@@ -65,7 +47,7 @@ module _ (a : List ℕ) (t n p d : ℕ) where
     where
       each : (allowed : Bool) → inLimits t n p d ≡ allowed → unlessWent old (formatArea a t n p d) ≡ formatNew old t n p d
       each true e =
-          let exact : length a ≡ size t n p = rw (le-leb _ _ (limits-size t n p d e)) at long in
+          let exact : length a ≡ size t n p = rw (le-leb _ _ (size-most t n p d e)) at long in
           rw (e, eq-eqb _ _ exact, eq-eqb _ _ (length-replicate {A = ℕ} (size t n p) 0))
       each false e = rw e
 

@@ -2,7 +2,6 @@
 mod Reading
 mod Cutting
 pub mod Writing
-mod Values
 mod Formats
 mod Turns
 mod Running

@@ -11,7 +11,7 @@ use lib.Seq.{drop-cons}
 use Rattle.meaning.specs.Limits.{mostWord}
 use Rattle.script.specs.declared.Field.{Field}
 use Rattle.script.specs.declared.Command.the-variants.{Bad}
-use Rattle.script.specs.Places.{seen}
+use Rattle.script.specs.Positions.{seen}
 use Rattle.script.specs.Syntax.{BLANK, ZERO, NINE, Read, missing, got, isDigit, digits, bounded, number, field, lettered, command}
 
 -- ---- digits

@@ -13,7 +13,7 @@ use Rattle.script.specs.declared.Command.the-variants.{Bad}
 use Rattle.script.specs.Syntax.{BLANK, LETTER-F, LETTER-B, LETTER-S, missing, field, lettered, command, line, lines}
 use Rattle.script.specs.Printing.{printed, mostPrinted, Wrote}
 use Rattle.script.specs.Output.{FORM, LONG, mostInput, mostOutput, stopped, replied, heard, answers, output, fitting}
-use Rattle.script.specs.Places.{wordRange, Ready}
+use Rattle.script.specs.Positions.{wordRange, Ready}
 use Rattle.script.proofs.Writing.{wrote-then, printed-most}
 use Rattle.script.proofs.Turns.{taken}
 

@@ -2,20 +2,21 @@
 use mathlib.Core.Bool.{Bool, true, false, cond}
 use mathlib.Core.Path.{_≡_, _∙_, refl, ap}
 use mathlib.Core.List.{List, [], _∷_, _++_}
-use Prim.Native.Nat.{ℕ, zero, suc, _+_, _/_, _%_, _≤_, _<_}
+use Prim.Native.Nat.{ℕ, zero, suc, _+_, _/_, _%_, _≤_}
 use native.Mathlib.Omega.{arith}
 use borrow.Author.Tests.{eq-eqb, ne-eqb, leb-true}
 use lib.Dec.{leb}
 use lib.ListN.{length, take, drop, take-append-drop}
 use lib.Seq.{length-take-le, take-at}
 use Rattle.meaning.specs.Numbers.{WENT, packed}
+use Rattle.meaning.specs.Limits.{mostWord}
 use Rattle.meaning.specs.Call.{Reply}
-use Rattle.store.specs.Layout.{size}
+use Rattle.store.specs.Layout.{size, largest}
 use Rattle.store.specs.Area.{Bytes}
 use Rattle.store.specs.Calls.{formatArea}
+use Rattle.calls.proofs.Values.{packed-number, packed-value}
 use Rattle.script.specs.Output.{replied, unlessWent, formatNew}
-use Rattle.script.specs.Places.{wordRange, largest}
-use Rattle.script.proofs.Values.{packed-number, packed-value}
+use Rattle.script.specs.Positions.{wordRange}
 use Rattle.script.proofs.Formats.{format-value, format-refused, format-new}
 
 -- ---- the front of a buffer
@@ -33,14 +34,14 @@ abbrev pub taken : ℕ → ℕ → List ℕ → Reply (List ℕ)
 taken both used buffer = record { number = both / wordRange; value = both % wordRange; after = take used buffer }
 
 pub taken-reply :
-    (both used : ℕ) (front rest : List ℕ) (r : Reply (List ℕ)) → both ≡ packed (r .number) (r .value) → r .value < wordRange
+    (both used : ℕ) (front rest : List ℕ) (r : Reply (List ℕ)) → both ≡ packed (r .number) (r .value) → r .value ≤ mostWord
     → front ≡ r .after → length front ≡ used → replied (taken both used (front ++ rest)) ≡ replied r
 taken-reply both used front rest r e small after long =
     rw (e, packed-number (r .number) (r .value) small, packed-value (r .number) (r .value) small, take-at front rest used long, after)
 
 -- a begin or a step there, which keeps the length
 pub taken-call :
-    (buffer : List ℕ) (used : ℕ) → used ≤ length buffer → (r : Reply (List ℕ)) → r .value < wordRange → (both : ℕ) (front : List ℕ)
+    (buffer : List ℕ) (used : ℕ) → used ≤ length buffer → (r : Reply (List ℕ)) → r .value ≤ mostWord → (both : ℕ) (front : List ℕ)
     → (both ≡ packed (r .number) (r .value)) × (front ≡ r .after) → length front ≡ length (take used buffer)
     → (replied (taken both used (front ++ drop used buffer)) ≡ replied r) × (used ≤ length buffer)
 taken-call buffer used inside r small both front g kept =
@@ -80,7 +81,7 @@ module _ (buffer : List ℕ) (used want t n p d : ℕ)
   taken-refused some =
       let r = formatArea (take want buffer) t n p d in
       let zero-value = format-value (take want buffer) t n p d in
-      let small : r .value < wordRange = omega (arith, zero-value) in
+      let small : r .value ≤ mostWord = omega (arith, zero-value) in
       let refused : r .number ≡ WENT → ⊥ = λ went. some (omega (arith, zero-value, went)) in
       let front-kept : front ≡ take want buffer = after ∙ format-refused (take want buffer) t n p d refused in
       let kept : front ++ drop want buffer ≡ buffer = rw (front-kept) (take-append-drop want buffer) in

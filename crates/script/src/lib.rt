@@ -6,12 +6,12 @@ ghost use mathlib.Core.List.{[], _∷_};
 ghost use Prim.Native.Nat.{_+_, _≤_, _<_};
 ghost use lib.Dec.{leb};
 ghost use lib.ListN.{length, take, drop};
-ghost use Rattle.store.specs.Layout.{size};
+ghost use Rattle.store.specs.Layout.{size, largest};
 ghost use Rattle.store.specs.Calls.{beginArea, stepArea};
 ghost use Rattle.script.specs.Syntax.{digits, bounded, number, field, four, asFormat, asBegin, asStep, command, lines};
 ghost use Rattle.script.specs.Printing.{figures, mostPrinted, printed, Wrote};
 ghost use Rattle.script.specs.Output.{replied, formatNew, heard, answers, output, fitting};
-ghost use Rattle.script.specs.Places.{seen, cutAt, Inside, largest, Held, turned, Left, Ready};
+ghost use Rattle.script.specs.Positions.{seen, cutAt, Inside, Held, turned, Left, Ready};
 use store::Store;
 
 // ---- the language

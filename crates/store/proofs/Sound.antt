@@ -16,7 +16,7 @@ use Rattle.meaning.specs.Limits.{least, mostThreads, mostNumbers, mostBlocks, m
 use Rattle.meaning.specs.Store.{Store, idle}
 use Rattle.meaning.specs.Programs.{LEVEL, lastLine}
 use Rattle.meaning.proofs.Base.Words.{and-left, and-right, within-true}
-use Rattle.store.specs.Layout.{tAt, nAt, pAt, dAt, size}
+use Rattle.store.specs.Layout.{tAt, nAt, pAt, dAt, size, largest}
 use Rattle.store.specs.Live.{Live}
 use Rattle.store.specs.Area.{word, decode, zeros, working, soundThread, inBounds, sound, fitted, wellFormed}
 
@@ -89,6 +89,9 @@ limits-sizes t n p d e =
       d-low = fd .0;
       d-high = fd .1;
     }
+
+pub size-most : (t n p d : ℕ) → inLimits t n p d ≡ true → size t n p ≤ largest
+size-most t n p d e = omega (arith, limits-sizes t n p d e)
 
 pub sizes-limits : (t n p d : ℕ) → Sizes t n p d → inLimits t n p d ≡ true
 sizes-limits t n p d z =

@@ -1,5 +1,6 @@
 -- 01, "Sizes and the store area": where each word of the area stands, counted in words from 0. No layout number stands elsewhere.
 use Prim.Native.Nat.{ℕ, _+_, _*_}
+use Rattle.meaning.specs.Limits.{mostThreads, mostNumbers, mostBlocks}
 
 -- "T, N, P, D, header lock, headers' owner."
 abbrev pub tAt : ℕ
@@ -47,3 +48,7 @@ areaWords t n p = blocksAt t n + blockWords * p
 -- "Length in bytes is 4(6 + 7T + 2N + 4P)"
 abbrev pub size : ℕ → ℕ → ℕ → ℕ
 size t n p = 4 * areaWords t n p
+
+-- "10,712 at most": with all sizes at their limits
+abbrev pub largest : ℕ
+largest = size mostThreads mostNumbers mostBlocks

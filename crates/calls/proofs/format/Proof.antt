@@ -15,8 +15,39 @@ use Rattle.calls.proofs.Fresh.{area-fresh}
 use Rattle.calls.proofs.format.Statement.{statement}
 use Rattle.calls.proofs.format.Tie as tie
 
--- the sizes are in their limits
-limits : (c : tie.Else1) → inLimits (c .before .before .before .args .t) (c .before .before .before .args .n) (c .before .before .before .args .p) (c .before .before .before .args .d) ≡ true
+-- ---- places of the code
+
+-- the function's start, from where the sizes are in their limits
+abbrev start : tie.Else1 → tie.Start
+start c = c .before .before .before
+
+-- the sizes are in their limits, and what the area's length should be has been asked
+abbrev limited : tie.After-size-of → tie.Else1
+limited c = c .before
+
+-- the area has its length
+abbrev fitted : tie.After-clear → tie.Else2
+fitted c = c .before .before
+
+-- every byte is 0
+abbrev cleared : tie.After-put-word → tie.After-clear
+cleared c = c .before .before .before .before
+
+-- T has been put
+abbrev put-t : tie.After-put-word2 → tie.After-put-word
+put-t c = c .before .before .before .before
+
+-- N has been put
+abbrev put-n : tie.After-put-word3 → tie.After-put-word2
+put-n c = c .before .before .before .before
+
+-- P has been put
+abbrev put-p : tie.After-put-word4 → tie.After-put-word3
+put-p c = c .before .before .before .before
+
+-- ---- the refusals and the answer
+
+limits : (c : tie.Else1) → inLimits (start c .args .t) (start c .args .n) (start c .args .p) (start c .args .d) ≡ true
 limits c = sym (c .before .in-limits .ensures) ∙ not-false _ (c .if1 .left)
 
 returns : tie.Need-returns
@@ -28,32 +59,37 @@ returns c =
 
 size-of-requires : tie.Need-size-of-requires
 size-of-requires c κs =
-    let a = c .before .before .before .args in
+    let a = start c .args in
     let z = limits-sizes (a .t) (a .n) (a .p) (a .d) (limits c) in
     (z .t-high, z .n-high, z .p-high)
 
 returns-2 : tie.Need-returns-2
 returns-2 c =
-    let a = c .before .before .before .before .before .before .args in
+    let sized = c .before .before in
+    let a = start (limited sized) .args in
     replied SHAPE 0
-    (format-shape (a .area .now) (a .t) (a .n) (a .p) (a .d) (limits (c .before .before .before))
-    (λ e. c .before .if2 .taken (e ∙ sym (c .before .before .size-of .ensures))))
+    (format-shape (a .area .now) (a .t) (a .n) (a .p) (a .d) (limits (limited sized)) (λ e. c .before .if2 .taken (e ∙ sym (sized .size-of .ensures))))
     (c .pack2 .ensures) refl
 
 returns-3 : tie.Need-returns-3
 returns-3 c =
-    let a = c .before .before .before .before .before .before .before .before .before .before .before .before .before .before .before .before .before .before .before .before .before .before .before .before .before .before .args in
-    let l = limits (c .before .before .before .before .before .before .before .before .before .before .before .before .before .before .before .before .before .before .before .before .before .before .before) in
-    let fits : length (a .area .now) ≡ size (a .t) (a .n) (a .p) = omega (arith, c .before .before .before .before .before .before .before .before .before .before .before .before .before .before .before .before .before .before .before .before .before .if2 .left, c .before .before .before .before .before .before .before .before .before .before .before .before .before .before .before .before .before .before .before .before .before .before .size-of .ensures) in
+    let d-put = c .before .before .before in
+    let p-put = put-p d-put in
+    let n-put = put-n p-put in
+    let t-put = put-t n-put in
+    let zeros = cleared t-put in
+    let sized = fitted zeros .before in
+    let a = start (limited sized) .args in
+    let l = limits (limited sized) in
+    let fits : length (a .area .now) ≡ size (a .t) (a .n) (a .p) = omega (arith, fitted zeros .if2 .left, sized .size-of .ensures) in
     replied WENT 0 (format-went (a .area .now) (a .t) (a .n) (a .p) (a .d) l fits) (c .pack3 .ensures)
-    (c .before .before .before .put-word4 .ensures
+    (d-put .put-word4 .ensures
     ∙ ap (λ x. putWord x dAt (a .d))
-    (c .before .before .before .before .before .before .before .put-word3 .ensures
+    (p-put .put-word3 .ensures
     ∙ ap (λ x. putWord x pAt (a .p))
-    (c .before .before .before .before .before .before .before .before .before .before .before .put-word2 .ensures
+    (n-put .put-word2 .ensures
     ∙ ap (λ x. putWord x nAt (a .n))
-    (c .before .before .before .before .before .before .before .before .before .before .before .before .before .before .before .put-word .ensures
-    ∙ ap (λ x. putWord x tAt (a .t)) (c .before .before .before .before .before .before .before .before .before .before .before .before .before .before .before .before .before .before .before .clear .ensures ∙ ap (λ m. replicate m 0) fits))))
+    (t-put .put-word .ensures ∙ ap (λ x. putWord x tAt (a .t)) (zeros .clear .ensures ∙ ap (λ m. replicate m 0) fits))))
     ∙ area-fresh (a .t) (a .n) (a .p) (a .d) (limits-sizes (a .t) (a .n) (a .p) (a .d) l))
 
 pub format-spec : {M : Type 1} → statement M

@@ -33,27 +33,34 @@ returns t c =
     let x = c .before .before .args in
     rw (figures-none (x .most) (x .value) (c .if1 .taken)) (wrote-nothing (now (x .out)) (x .at))
 
--- one digit
+-- one digit: `some` is where there may be a digit
 returns-2 : (t : ℕ) → lts.Need-returns-2 (put-byte.Asked, put-byte.Learnt, below t, own.Post) (at t) own.Post
 returns-2 t c =
-    let x = c .before .before .before .before .before .before .before .args in
-    rw (figures-some (x .most) (x .value) (c .before .before .before .before .before .if1 .left), lt-ltb _ _ (c .before .before .before .before .if2 .taken)) (c .before .before .put-byte .ensures)
+    let put = c .before .before in
+    let one = put .before .before in
+    let some = one .before in
+    let x = some .before .before .args in
+    rw (figures-some (x .most) (x .value) (some .if1 .left), lt-ltb _ _ (one .if2 .taken)) (put .put-byte .ensures)
 
--- the last digit after the others
+-- the last digit after the others, which have been put at `k`
 put-byte-requires-2 : (t : ℕ) → lts.Need-put-byte-requires-2 (put-byte.Asked, put-byte.Learnt, below t, own.Post) (at t) own.Post
 put-byte-requires-2 t c κs =
-    let x = c .before .before .before .before .before .before .before .before .args in
-    let k = c .before .before .before .put-figures in
-    omega (arith, figures-most (x .most - 1) (x .value / 10), k .ensures .ends, k .kept .0)
+    let k = c .before .before .before in
+    let x = k .before .before .before .before .before .args in
+    omega (arith, figures-most (x .most - 1) (x .value / 10), k .put-figures .ensures .ends, k .put-figures .kept .0)
 
 returns-3 : (t : ℕ) → lts.Need-returns-3 (put-byte.Asked, put-byte.Learnt, below t, own.Post) (at t) own.Post
 returns-3 t c =
-    let x = c .before .before .before .before .before .before .before .before .before .before .before .args in
+    let put = c .before .before in
+    let k = put .before .before .before .before in
+    let more = k .before .before in
+    let some = more .before in
+    let start = some .before .before in
+    let x = start .args in
     let others = figures (x .most - 1) (x .value / 10) in
-    let fits : x .at + length others ≤ length (now (x .out)) =
-    omega (arith, figures-most (x .most - 1) (x .value / 10), c .before .before .before .before .before .before .before .before .before .before .before .pre .1) in
-    rw (figures-some (x .most) (x .value) (c .before .before .before .before .before .before .before .before .before .if1 .left), le-ltb _ _ (c .before .before .before .before .before .before .before .before .if2 .left))
-    (wrote-then (now (x .out)) (x .at) others fits _ (c .before .before .before .before .before .before .put-figures .ensures) (c .before .before .put-byte2 .ensures))
+    let fits : x .at + length others ≤ length (now (x .out)) = omega (arith, figures-most (x .most - 1) (x .value / 10), start .pre .1) in
+    rw (figures-some (x .most) (x .value) (some .if1 .left), le-ltb _ _ (more .if2 .left))
+    (wrote-then (now (x .out)) (x .at) others fits _ (k .put-figures .ensures) (put .put-byte2 .ensures))
 
 pub +put-figures-spec : {M : Type 1} → statement M
 +put-figures-spec =

@@ -25,13 +25,15 @@ loop-holds c = (omega arith, omega arith, rw sub-self)
 returns : tie.Need-returns Inv-loop μ-loop
 returns c =
     let l = c .before .before .before .loop in
-    let found = lines-at-newline (now (c .before .before .before .before .args .input)) (c .before .before .before .before .args .at) (l .e) (l .inv .0) (c .before .before .loop-test .taken) (c .if1 .taken) in
+    let x = c .before .before .before .before .args in
+    let found = lines-at-newline (now (x .input)) (x .at) (l .e) (l .inv .0) (c .before .before .loop-test .taken) (c .if1 .taken) in
     (sym (l .inv .2 ∙ found), (omega arith, omega arith))
 
 loop-again : tie.Need-loop-again Inv-loop μ-loop
 loop-again c =
     let l = c .before .before .before .loop in
-    let past = lines-past (now (c .before .before .before .before .args .input)) (c .before .before .before .before .args .at) (l .e) (l .inv .0) (c .before .before .loop-test .taken) (c .if1 .left) in
+    let x = c .before .before .before .before .args in
+    let past = lines-past (now (x .input)) (x .at) (l .e) (l .inv .0) (c .before .before .loop-test .taken) (c .if1 .left) in
     (omega arith, omega arith, l .inv .2 ∙ past)
 
 returns-2 : tie.Need-returns-2 Inv-loop μ-loop

@@ -5,7 +5,7 @@ use denote.Ref.{now}
 use lib.ListN.{take}
 use lib.Seq.{length-take-le}
 use Rattle.store.specs.Calls.{beginArea}
-use Rattle.script.proofs.Values.{begin-value}
+use Rattle.calls.proofs.Values.{begin-value}
 use Rattle.script.proofs.Turns.{taken-call}
 use Rattle.script.proofs.obey_begin.Statement.{statement}
 use Rattle.script.proofs.obey_begin.Tie as tie

@@ -6,7 +6,7 @@ use denote.Ref.{now}
 use lib.ListN.{take}
 use lib.Seq.{length-take-le}
 use Rattle.store.specs.Calls.{stepArea}
-use Rattle.script.proofs.Values.{step-value}
+use Rattle.calls.proofs.Values.{step-value}
 use Rattle.script.proofs.Turns.{bytes-take, taken-call}
 use Rattle.script.proofs.obey_step.Statement.{statement}
 use Rattle.script.proofs.obey_step.Tie as tie

@@ -11,13 +11,27 @@ use Rattle.script.proofs.Writing.{wrote-then, figures-most}
 use Rattle.script.proofs.put_reply.Statement.{statement}
 use Rattle.script.proofs.put_reply.Tie as tie
 
--- ---- what was asked for, from the places after the first two numbers
+-- ---- places of the code
 
+-- the number has been put
+abbrev number-put : tie.After-put-byte → tie.After-put-figures
+number-put c = c .before .before .before .before
+
+-- the blank has been put
+abbrev blank-put : tie.After-put-figures2 → tie.After-put-byte
+blank-put c = c .before .before .before .before
+
+-- the function's start, from where the number has been put
+abbrev start : tie.After-put-figures → tie.Start
+start c = c .before .before .before
+
+-- from where the blank has been put
 abbrev asked : tie.After-put-byte → tie.Start
-asked c = c .before .before .before .before .before .before .before
+asked c = start (number-put c)
 
+-- and from where the value has been put
 abbrev asked2 : tie.After-put-figures2 → tie.Start
-asked2 c = asked (c .before .before .before .before)
+asked2 c = asked (blank-put c)
 
 -- ---- what has been printed by then
 
@@ -29,7 +43,7 @@ number-printed c =
     let x = asked c .args in
     let fits : x .at + length (decimal (x .number)) ≤ length (now (x .out)) =
     omega (arith, figures-most mostFigures (x .number), asked c .pre) in
-    wrote-then (now (x .out)) (x .at) (decimal (x .number)) fits (BLANK ∷ []) (c .before .before .before .before .put-figures .ensures) (c .put-byte .ensures)
+    wrote-then (now (x .out)) (x .at) (decimal (x .number)) fits (BLANK ∷ []) (number-put c .put-figures .ensures) (c .put-byte .ensures)
 
 value-printed :
     (c : tie.After-put-figures2)
@@ -40,32 +54,35 @@ value-printed c =
     let x = asked2 c .args in
     let fits : x .at + length (decimal (x .number) ++ (BLANK ∷ [])) ≤ length (now (x .out)) =
     rw length-append (omega (arith, figures-most mostFigures (x .number), asked2 c .pre)) in
-    wrote-then (now (x .out)) (x .at) (decimal (x .number) ++ (BLANK ∷ [])) fits (decimal (x .value)) (number-printed (c .before .before .before .before))
+    wrote-then (now (x .out)) (x .at) (decimal (x .number) ++ (BLANK ∷ [])) fits (decimal (x .value)) (number-printed (blank-put c))
     (c .put-figures2 .ensures)
 
 -- ---- the needs
 
 put-byte-requires : tie.Need-put-byte-requires
 put-byte-requires c κs =
-    let k = c .before .before .before .put-figures in
-    omega (arith, figures-most mostFigures (c .before .before .before .before .before .before .args .number), k .ensures .ends, k .kept .0, c .before .before .before .before .before .before .pre)
+    let k = c .before .before .before in
+    let s = start k in
+    omega (arith, figures-most mostFigures (s .args .number), k .put-figures .ensures .ends, k .put-figures .kept .0, s .pre)
 
 put-figures-requires-2 : tie.Need-put-figures-requires-2
 put-figures-requires-2 c κs =
-    let s = asked (c .before .before .before) in
+    let blank = c .before .before .before in
+    let s = asked blank in
     let short = figures-most mostFigures (s .args .number) in
-    let kept = c .before .before .before .before .before .before .before .put-figures .kept .0 in
-    omega (arith, short, simp length-append at (number-printed (c .before .before .before) .ends), kept, c .before .before .before .put-byte .kept .0, s .pre)
+    let kept = number-put blank .put-figures .kept .0 in
+    omega (arith, short, simp length-append at (number-printed blank .ends), kept, blank .put-byte .kept .0, s .pre)
 
 put-byte-requires-2 : tie.Need-put-byte-requires-2
 put-byte-requires-2 c κs =
-    let s = asked2 (c .before .before .before) in
+    let value = c .before .before .before in
+    let s = asked2 value in
     let short = figures-most mostFigures (s .args .number) in
     let short₂ = figures-most mostFigures (s .args .value) in
-    let kept = c .before .before .before .before .before .before .before .before .before .before .before .put-figures .kept .0 in
-    let kept₂ = c .before .before .before .before .before .before .before .put-byte .kept .0 in
+    let kept = number-put (blank-put value) .put-figures .kept .0 in
+    let kept₂ = blank-put value .put-byte .kept .0 in
     omega
-    (arith, short, short₂, simp length-append at (value-printed (c .before .before .before) .ends), kept, kept₂, c .before .before .before .put-figures2 .kept .0, s .pre)
+    (arith, short, short₂, simp length-append at (value-printed value .ends), kept, kept₂, value .put-figures2 .kept .0, s .pre)
 
 returns : tie.Need-returns
 returns c =

@@ -10,11 +10,21 @@ use Rattle.script.proofs.read_field.Tie as tie
 returns : tie.Need-returns
 returns c = rw (drop-of-length-le _ (c .if1 .taken))
 
+-- the byte has been read: the function's start from there
+abbrev start : tie.After-shared-slice-known2 → tie.Start
+start c = c .before .before .before
+
 returns-2 : tie.Need-returns-2
-returns-2 c = c .read-number .ensures ∙ sym (field-blank (now (c .before .before .before .before .before .args .line)) (c .before .before .before .before .before .args .at) (c .before .before .before .if1 .left) (c .before .if2 .taken))
+returns-2 c =
+    let b = c .before .before in
+    let x = start b .args in
+    c .read-number .ensures ∙ sym (field-blank (now (x .line)) (x .at) (b .before .if1 .left) (c .before .if2 .taken))
 
 returns-3 : tie.Need-returns-3
-returns-3 c = sym (field-other (now (c .before .before .before .before .args .line)) (c .before .before .before .before .args .at) (c .before .before .if1 .left) (c .if2 .left))
+returns-3 c =
+    let b = c .before in
+    let x = start b .args in
+    sym (field-other (now (x .line)) (x .at) (b .before .if1 .left) (c .if2 .left))
 
 pub read-field-spec : {M : Type 1} → statement M
 read-field-spec =

@@ -7,6 +7,10 @@ use Rattle.script.proofs.Running.{output-long, output-lines, fitting-sh
 use Rattle.script.proofs.run.Statement.{statement}
 use Rattle.script.proofs.run.Tie as tie
 
+-- the function's start, from where there is room
+abbrev start : tie.Else1 → tie.Start
+start c = c .before .before .before
+
 returns : tie.Need-returns
 returns c =
     let x = c .before .before .before .args in
@@ -14,17 +18,18 @@ returns c =
 
 returns-2 : tie.Need-returns-2
 returns-2 c =
-    let x = c .before .before .before .before .before .before .before .before .args in
-    rw
-    (fitting-ample (now (x .out)) (output (now (x .input))) (c .before .before .before .before .before .if1 .left), output-long (now (x .input)) (c .before .before .before .before .if2 .taken))
+    let long = c .before .before .before .before in
+    let x = start (long .before) .args in
+    rw (fitting-ample (now (x .out)) (output (now (x .input))) (long .before .if1 .left), output-long (now (x .input)) (long .if2 .taken))
     (c .before .before .put-reply .ensures)
 
 returns-3 : tie.Need-returns-3
 returns-3 c =
-    let x = c .before .before .before .before .before .before .before .before .before .before .args in
-    rw
-    (fitting-ample (now (x .out)) (output (now (x .input))) (c .before .before .before .before .before .before .before .if1 .left), output-lines (now (x .input)) (c .before .before .before .before .before .before .if2 .left))
-    (c .before .before .before .run-lines .ensures)
+    let ran = c .before .before .before in
+    let short = ran .before .before .before in
+    let x = start (short .before) .args in
+    rw (fitting-ample (now (x .out)) (output (now (x .input))) (short .before .if1 .left), output-lines (now (x .input)) (short .if2 .left))
+    (ran .run-lines .ensures)
 
 pub run-spec : {M : Type 1} → statement M
 run-spec =

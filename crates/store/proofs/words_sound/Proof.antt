@@ -4,21 +4,36 @@ use Rattle.store.proofs.Decode.{inBounds-words}
 use Rattle.store.proofs.words_sound.Statement.{statement}
 use Rattle.store.proofs.words_sound.Tie as tie
 
+-- ---- places of the code
+
+-- where the map, the locks and the blocks stand has been worked out
+abbrev placed : tie.After-threads-sound → tie.After-blocks-at
+placed c = c .before .before .before
+
+-- the threads' records have been tested
+abbrev threads : tie.After-all-at-most4 → tie.After-threads-sound
+threads c = c .before .before .before .before
+
+-- the function's start, from where the places have been worked out
+abbrev start : tie.After-blocks-at → tie.Start
+start c = c .before .before .before .before
+
 returns : tie.Need-returns
 returns c =
+    let at = placed (threads c) in
     simp (
-      c .before .before .before .before .before .before .word-at .ensures,
-      c .before .before .before .before .before .word-at2 .ensures,
-      c .before .before .before .before .threads-sound .ensures,
+      threads c .before .before .word-at .ensures,
+      threads c .before .word-at2 .ensures,
+      threads c .threads-sound .ensures,
       c .before .before .before .all-at-most .ensures,
       c .before .before .all-at-most2 .ensures,
       c .before .all-at-most3 .ensures,
       c .all-at-most4 .ensures,
-      c .before .before .before .before .before .before .before .before .before .map-at .ensures,
-      c .before .before .before .before .before .before .before .before .locks-at .ensures,
-      c .before .before .before .before .before .before .before .blocks-at .ensures,
+      at .before .before .map-at .ensures,
+      at .before .locks-at .ensures,
+      at .blocks-at .ensures,
     )
-    (inBounds-words (c .before .before .before .before .before .before .before .before .before .before .before .pre))
+    (inBounds-words (start at .pre))
 
 pub words-sound-spec : {M : Type 1} → statement M
 words-sound-spec =

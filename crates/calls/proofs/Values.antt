@@ -1,9 +1,9 @@
 -- The value that a call gives back is a word: the value of begin is 0, and that of step is 0, 1 or a register of an area of bytes. So
--- number and value can be taken apart again. Assumes nothing.
+-- number and value can be taken apart again, by one more than the largest word. Assumes nothing.
 use mathlib.Core.Bool.{Bool, true, false, not, cond, _||_}
-use mathlib.Core.Path.{_≡_}
+use mathlib.Core.Path.{_≡_, refl}
 use mathlib.Core.List.{List}
-use Prim.Native.Nat.{ℕ, _+_, _*_, _/_, _%_, _<_}
+use Prim.Native.Nat.{ℕ, _+_, _/_, _%_, _≤_}
 use native.Mathlib.Omega.{arith}
 use lib.Dec.{eqb, ltb}
 use Rattle.meaning.specs.declared.Answer.{Answer}
@@ -16,24 +16,24 @@ use Rattle.meaning.specs.declared.Found.the-variants.{Nobody, At}
 use Rattle.meaning.specs.declared.Verdict.{Verdict}
 use Rattle.meaning.specs.declared.Verdict.the-variants.{Blocked, Fault, Go, Done}
 use Rattle.meaning.specs.Numbers.{packed, SHAPE, THREAD, BUSY, IDLE, LOGICAL, OPERATION}
-use Rattle.meaning.specs.Limits.{within}
-use Rattle.meaning.specs.Store.{Store, idle}
+use Rattle.meaning.specs.Limits.{mostWord, within}
+use Rattle.meaning.specs.Store.{Store}
 use Rattle.meaning.specs.Holding.{free, heldBy}
 use Rattle.meaning.specs.Choosing.{lowestFree, toBlock, leastWorn}
 use Rattle.meaning.specs.Programs.{WRITE, LEVEL, actAt}
 use Rattle.meaning.specs.Step.{block, touches, heads, moved, answer, choosing, perform}
 use Rattle.meaning.specs.Call.{Outcome, refused, left, reply, check, isIdle, told}
-use Rattle.store.specs.Layout.{tAt, threadsAt, threadWords}
-use Rattle.store.specs.Area.{Bytes, word, threadFrom, decode, wellFormed, encode}
-use Rattle.script.specs.Places.{wordRange}
+use Rattle.meaning.proofs.Words.{either-way}
+use Rattle.store.specs.Area.{Bytes, decode, wellFormed, encode}
 use Rattle.store.specs.Calls.{beginArea, stepArea}
+use Rattle.store.proofs.Range.{good-ranged}
 
 -- ---- number and value taken apart
 
-pub packed-number : (n v : ℕ) → v < wordRange → packed n v / wordRange ≡ n
+pub packed-number : (n v : ℕ) → v ≤ mostWord → packed n v / (mostWord + 1) ≡ n
 packed-number n v h = omega arith
 
-pub packed-value : (n v : ℕ) → v < wordRange → packed n v % wordRange ≡ v
+pub packed-value : (n v : ℕ) → v ≤ mostWord → packed n v % (mostWord + 1) ≡ v
 packed-value n v h = omega arith
 
 -- ---- a step's verdict finishes with a word
@@ -42,20 +42,16 @@ data Small : Verdict → Type 0 where
   blocked : Small Blocked
   fault : Small Fault
   go : {r : _} {e : _} → Small (Go r e)
-  done : {v : ℕ} {e : _} → v < wordRange → Small (Done v e)
+  done : {v : ℕ} {e : _} → v ≤ mostWord → Small (Done v e)
 
 small-cond : {v w : Verdict} (b : Bool) → Small v → Small w → Small (cond b v w)
 small-cond true x y = x
 small-cond false x y = y
 
-moved-small : (h : ℕ) → moved h < wordRange
-moved-small h = pick (free h)
-  where
-    pick : (b : Bool) → cond b 0 1 < wordRange
-    pick true = omega arith
-    pick false = omega arith
+moved-small : (h : ℕ) → moved h ≤ mostWord
+moved-small h = either-way (free h) (λ b. rw b (omega arith)) (λ b. rw b (omega arith))
 
-answer-small : (a : Answer) (r : Thread) → r .c < wordRange → answer a r < wordRange
+answer-small : (a : Answer) (r : Thread) → r .c ≤ mostWord → answer a r ≤ mostWord
 answer-small Zero r h = omega arith
 answer-small C r h = h
 answer-small Moved r h = moved-small (r .h)
@@ -64,7 +60,7 @@ choosing-small : (wear : ℕ → ℕ) (distance : ℕ) (r : Thread) (to from : F
 choosing-small wear distance r Nobody from = fault
 choosing-small wear distance r (At to) from = go
 
-perform-small : (a : Act) (s : Store) (t : ℕ) (r : Thread) → r .c < wordRange → Small (perform a s t r)
+perform-small : (a : Act) (s : Store) (t : ℕ) (r : Thread) → r .c ≤ mostWord → Small (perform a s t r)
 perform-small Nothing s t r h = fault
 perform-small TakeH s t r h = small-cond (free (s .lock)) go blocked
 perform-small ReleaseH s t r h = small-cond (heldBy t (s .lock)) go fault
@@ -100,13 +96,13 @@ perform-small Unmap s t r h = go
 
 data Worth : Outcome → Type 0 where
   nothing : {n : ℕ} → Worth (refused n)
-  value : {n v : ℕ} {s : Store} → v < wordRange → Worth (left n v s)
+  value : {n v : ℕ} {s : Store} → v ≤ mostWord → Worth (left n v s)
 
-worth-check : {o : Outcome} (b : Bool) (n : ℕ) → Worth o → Worth (check b n o)
-worth-check true n w = w
+worth-check : {o : Outcome} (b : Bool) (n : ℕ) → (b ≡ true → Worth o) → Worth (check b n o)
+worth-check true n w = w refl
 worth-check false n w = nothing
 
-worth-value : (a : List ℕ) {o : Outcome} → Worth o → reply encode a o .value < wordRange
+worth-value : (a : List ℕ) {o : Outcome} → Worth o → reply encode a o .value ≤ mostWord
 worth-value a nothing = omega arith
 worth-value a (value h) = h
 
@@ -118,34 +114,23 @@ worth-told s t (done h) = value h
 
 -- ---- begin and step
 
-pub begin-value : (a : List ℕ) (t op n c : ℕ) → beginArea a t op n c .value < wordRange
+pub begin-value : (a : List ℕ) (t op n c : ℕ) → beginArea a t op n c .value ≤ mostWord
 begin-value a t op n c =
     let s = decode a in
     worth-value a
-    (worth-check (wellFormed a) SHAPE
-    (worth-check (ltb t (s .threads)) THREAD
-    (worth-check (isIdle (s .thread t)) BUSY
-    (worth-check (within WRITE LEVEL op) OPERATION
-    (worth-check (eqb op LEVEL || ltb n (s .numbers)) LOGICAL (value {v = 0} (omega arith)))))))
+    (worth-check (wellFormed a) SHAPE (λ _.
+    worth-check (ltb t (s .threads)) THREAD (λ _.
+    worth-check (isIdle (s .thread t)) BUSY (λ _.
+    worth-check (within WRITE LEVEL op) OPERATION (λ _.
+    worth-check (eqb op LEVEL || ltb n (s .numbers)) LOGICAL (λ _. value {v = 0} (omega arith)))))))
 
-word-small : (a : List ℕ) → Bytes a → (k : ℕ) → word a k < wordRange
-word-small a bytes k =
-    omega (arith, bytes (4 * k), bytes (4 * k + 1), bytes (4 * k + 2), bytes (4 * k + 3))
-
-register-small : (a : List ℕ) → Bytes a → (t : ℕ) → decode a .thread t .c < wordRange
-register-small a bytes t =
-    pick (threadFrom (word a) (threadsAt + threadWords * t)) (ltb t (word a tAt)) (word-small a bytes (threadsAt + threadWords * t + 3))
-  where
-    pick : (r : Thread) (b : Bool) → r .c < wordRange → cond b r idle .c < wordRange
-    pick r true h = h
-    pick r false h = omega arith
-
-pub step-value : (a : List ℕ) (t : ℕ) → Bytes a → stepArea a t .value < wordRange
+pub step-value : (a : List ℕ) (t : ℕ) → Bytes a → stepArea a t .value ≤ mostWord
 step-value a t bytes =
     let s = decode a in
     let r = s .thread t in
     worth-value a
-    (worth-check (wellFormed a) SHAPE
-    (worth-check (ltb t (s .threads)) THREAD
-    (worth-check (not (isIdle r)) IDLE
-    (worth-told s t (perform-small (actAt (r .op) (r .line)) s t r (register-small a bytes t))))))
+    (worth-check (wellFormed a) SHAPE (λ formed.
+    worth-check (ltb t (s .threads)) THREAD (λ _.
+    worth-check (not (isIdle r)) IDLE (λ _.
+    let word = good-ranged a (record { bytes = bytes; formed = formed }) .thread t .c in
+    worth-told s t (perform-small (actAt (r .op) (r .line)) s t r word)))))

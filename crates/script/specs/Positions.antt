@@ -1,10 +1,10 @@
--- What the code's answers mean, for the contracts inside the crate: the code goes by places in a list where the definitions hand on the
+-- What the code's answers mean, for the contracts inside the crate: the code goes by positions in a list where the definitions hand on the
 -- rest of it, and keeps the store at the front of a buffer.
 use mathlib.Core.List.{List}
 use Prim.Native.Nat.{ℕ, _+_, _-_, _/_, _%_, _≤_, _<_}
 use lib.ListN.{length, take, drop}
-use Rattle.meaning.specs.Limits.{mostWord, mostThreads, mostNumbers, mostBlocks}
-use Rattle.store.specs.Layout.{size}
+use Rattle.meaning.specs.Limits.{mostWord}
+use Rattle.store.specs.Layout.{largest}
 use Rattle.script.specs.declared.Field.{Field}
 use Rattle.script.specs.declared.Field.the-variants as fields
 use Rattle.script.specs.declared.Line.{Line}
@@ -14,30 +14,26 @@ use Rattle.script.specs.declared.Turn.the-variants as turns
 use Rattle.script.specs.Syntax.{Read, missing, got, Lines, end, torn, line, lines}
 use Rattle.script.specs.Output.{mostInput, mostOutput, Heard, stopped, replied}
 
--- ---- places
+-- ---- positions
 
--- a number that was found in a list, with the place after it
+-- a number that was found in a list, with the position after it
 abbrev pub seen : List ℕ → Field → Read
 seen s fields.Missing = missing
 seen s (fields.Read v at) = got v (drop at s)
 
--- a line that was found from a place of an input on, with the place of its newline
+-- a line that was found from a position of an input on, with the position of its newline
 abbrev pub cutAt : List ℕ → ℕ → Line → Lines
 cutAt s at cuts.End = end
 cutAt s at cuts.Torn = torn
 cutAt s at (cuts.Ending e) = line (take (e - at) (drop at s)) (lines (drop (e + 1) s))
 
--- the newline stands from the place on, and before the end
+-- the newline stands from the position on, and before the end
 abbrev pub Inside : ℕ → ℕ → Line → Type 0
 Inside at size cuts.End = Unit
 Inside at size cuts.Torn = Unit
 Inside at size (cuts.Ending e) = (at ≤ e) × (e < size)
 
 -- ---- the store at the front of a buffer
-
--- "10,712 at most": the length of an area with all sizes at their limits
-abbrev pub largest : ℕ
-largest = size mostThreads mostNumbers mostBlocks
 
 -- the first so many bytes of a buffer are the store's area; the buffer has room for any
 pub record Held (buffer : List ℕ) (used : ℕ) : Type 0 where

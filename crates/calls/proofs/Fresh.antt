@@ -10,7 +10,7 @@ use Rattle.store.specs.Layout.{tAt, nAt, pAt, dAt, threadsAt, threadWords, mapA
 use Rattle.store.specs.Area.{Bytes, word, threadFrom, column, storeOf, encode, decode}
 use Rattle.store.specs.Live.{putWord}
 use Rattle.store.proofs.Decode.{below-is}
-use Rattle.store.proofs.Words.{putFrom, updFrom, length-putFrom, bytes-putFrom, word-putFrom, updFrom-other}
+use Rattle.store.proofs.Bytes.{putFrom, updFrom, length-putFrom, bytes-putFrom, word-putFrom, updFrom-other}
 use Rattle.store.proofs.Sound.{Sizes}
 use Rattle.store.proofs.Codec.{encode-decode}
 

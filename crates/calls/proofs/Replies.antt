@@ -23,7 +23,7 @@ use Rattle.store.specs.Layout.{tAt, nAt, pAt, threadsAt, threadWords, size}
 use Rattle.store.specs.Area.{Bytes, word, threadFrom, encode, decode, wellFormed}
 use Rattle.store.specs.Live.{Live, Within}
 use Rattle.store.specs.Calls.{formatArea, callArea}
-use Rattle.store.proofs.Lines.{few-lines}
+use Rattle.store.proofs.LastLines.{few-lines}
 use Rattle.store.proofs.Sound.{Sound, Working, SoundThread, wellFormed-sound}
 use Rattle.store.proofs.Codec.{encode-decode}
 use Rattle.machine.specs.declared.Sizes.{Sizes}
@@ -37,10 +37,10 @@ use Rattle.calls.specs.Means.{Replied}
 abbrev pub refusal : ℕ → List ℕ → Reply (List ℕ)
 refusal number a = record { number = number; value = 0; after = a }
 
-abbrev pub answer : ℕ → ℕ → List ℕ → Reply (List ℕ)
-answer number value b = record { number = number; value = value; after = b }
+abbrev pub replyOf : ℕ → ℕ → List ℕ → Reply (List ℕ)
+replyOf number value b = record { number = number; value = value; after = b }
 
-pub replied : {y : Reply (List ℕ)} (number value : ℕ) {b : List ℕ} {r : ℕ} {x : List ℕ} → y ≡ answer number value b → r ≡ packed number value → x ≡ b → Replied y r x
+pub replied : {y : Reply (List ℕ)} (number value : ℕ) {b : List ℕ} {r : ℕ} {x : List ℕ} → y ≡ replyOf number value b → r ≡ packed number value → x ≡ b → Replied y r x
 replied number value e q i = rw e (q, i)
 
 -- ---- a well-formed area
@@ -166,7 +166,7 @@ module _ {a : List ℕ} {k : ℕ} {z : Sizes} (o : Opened a k z) {r : Thread} (i
 
       pub begin-went :
           not (eqb op LEVEL) && leb (z .n) n ≡ false →
-          callArea a (begin k op n c) ≡ answer WENT 0 (encode (apply (decode a) k (begun op n c) nothing))
+          callArea a (begin k op n c) ≡ replyOf WENT 0 (encode (apply (decode a) k (begun op n c) nothing))
       begin-went l = rw (o .well, below, rests (eq-eqb _ _ e), operation-tested op w, numbered l)
 
   -- ---- a thread that works, and what is judged of it
@@ -235,5 +235,5 @@ module _ (a : List ℕ) (t n p d : ℕ) where
   pub format-shape : inLimits t n p d ≡ true → (length a ≡ size t n p → ⊥) → formatArea a t n p d ≡ refusal SHAPE a
   format-shape e h = rw (e, ne-eqb (length a) (size t n p) h)
 
-  pub format-went : inLimits t n p d ≡ true → length a ≡ size t n p → formatArea a t n p d ≡ answer WENT 0 (encode (fresh t n p d))
+  pub format-went : inLimits t n p d ≡ true → length a ≡ size t n p → formatArea a t n p d ≡ replyOf WENT 0 (encode (fresh t n p d))
   format-went e h = rw (e, eq-eqb (length a) (size t n p) h)

@@ -23,7 +23,7 @@ use Rattle.meaning.specs.Choosing.{lowestFree, toBlock, leastWorn}
 use Rattle.meaning.specs.Programs.{WRITE, LEVEL, actAt}
 use Rattle.meaning.specs.Step.{block, touches, heads, moved, answer, choosing, perform}
 use Rattle.meaning.specs.Call.{Outcome, refused, left, reply, check, isIdle, told}
-use Rattle.meaning.proofs.Words.{either-way}
+use Rattle.meaning.proofs.Base.Words.{either-way}
 use Rattle.store.specs.Area.{Bytes, decode, wellFormed, encode}
 use Rattle.store.specs.Calls.{beginArea, stepArea}
 use Rattle.store.proofs.Range.{good-ranged}

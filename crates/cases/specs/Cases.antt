@@ -15,7 +15,7 @@ use Rattle.store.specs.Calls.{formatArea, callArea}
 -- ---- what a case is
 
 -- a call, and the number and value that must come back
-pub record Line : Type 0 where
+pub record Exchange : Type 0 where
   pub call : Entry
   pub number : ℕ
   pub value : ℕ
@@ -32,18 +32,18 @@ pub record Case : Type 0 where
   pub d : ℕ
   -- what the format must answer
   pub number : ℕ
-  pub lines : List Line
+  pub exchanges : List Exchange
   pub end : End
 
 -- what comes back: the numbers and values, the format's first, and the area where the case speaks of it
-pub record Back : Type 0 where
+pub record Seen : Type 0 where
   pub said : List (ℕ × ℕ)
   pub area : List ℕ
 
-abbrev pub expected : Case → Back
+abbrev pub expected : Case → Seen
 expected c =
     record {
-      said = (c .number, 0) ∷ map (λ l. (l .number, l .value)) (c .lines);
+      said = (c .number, 0) ∷ map (λ l. (l .number, l .value)) (c .exchanges);
       area = elim (c .end) [ anything ↦ [] | exactly ws ↦ bytes ws ];
     }
 
@@ -51,40 +51,40 @@ expected c =
 abbrev pub formatted : Case → Reply (List ℕ)
 formatted c = formatArea (replicate (size (c .t) (c .n) (c .p)) 255) (c .t) (c .n) (c .p) (c .d)
 
-abbrev pub happens : Case → Back
+abbrev pub happens : Case → Seen
 happens c =
     record {
       said =
-          (formatted c .number, formatted c .value) ∷ replies callArea (formatted c .after) (map (λ l. l .call) (c .lines));
+          (formatted c .number, formatted c .value) ∷ replies callArea (formatted c .after) (map (λ l. l .call) (c .exchanges));
       area =
           elim (c .end) [
             | anything ↦ []
-            | exactly ws ↦ run callArea (formatted c .after) (map (λ l. l .call) (c .lines))
+            | exactly ws ↦ run callArea (formatted c .after) (map (λ l. l .call) (c .exchanges))
           ];
     }
 
 -- ---- how cases are written
 
 abbrev pub formats : ℕ → ℕ → ℕ → ℕ → ℕ → Case
-formats t n p d number = record { t = t; n = n; p = p; d = d; number = number; lines = []; end = anything }
+formats t n p d number = record { t = t; n = n; p = p; d = d; number = number; exchanges = []; end = anything }
 
-abbrev pub accepted : ℕ → ℕ → ℕ → ℕ → List Line → Case
-accepted t n p d lines = record { t = t; n = n; p = p; d = d; number = WENT; lines = lines; end = anything }
+abbrev pub accepted : ℕ → ℕ → ℕ → ℕ → List Exchange → Case
+accepted t n p d exchanges = record { t = t; n = n; p = p; d = d; number = WENT; exchanges = exchanges; end = anything }
 
-abbrev pub onTheLast : ℕ → List Line → List Line
+abbrev pub onTheLast : ℕ → List Exchange → List Exchange
 onTheLast value rest = record { call = step 0; number = FINISHED; value = value } ∷ rest
 
-abbrev pub goes : ℕ → List Line → List Line
+abbrev pub goes : ℕ → List Exchange → List Exchange
 goes zero rest = rest
 goes (suc k) rest = record { call = step 0; number = WENT; value = 0 } ∷ goes k rest
 
 -- an operation of thread 0, begun and stepped to its end: so many steps, the last with the value
-abbrev pub toItsEnd : ℕ → ℕ → ℕ → ℕ → ℕ → List Line → List Line
+abbrev pub toItsEnd : ℕ → ℕ → ℕ → ℕ → ℕ → List Exchange → List Exchange
 toItsEnd op n c count value rest =
     record { call = begin 0 op n c; number = WENT; value = 0 } ∷ goes (count - 1) (onTheLast value rest)
 
 -- "T=1, N=2, P=3, D=2, whole operations: write 0 7, write 1 9, unmap 0, write 0 8, unmap 0", up to the levelling
-abbrev pub usedTwo : List Line → List Line
+abbrev pub usedTwo : List Exchange → List Exchange
 usedTwo rest =
     toItsEnd WRITE 0 7 16 0 (toItsEnd WRITE 1 9 16 0 (toItsEnd UNMAP 0 0 11 0 (toItsEnd WRITE 0 8 16 0 (toItsEnd UNMAP 0 0 11 0 rest))))
 
@@ -116,7 +116,7 @@ starred =
     ∷ accepted 1 1 2 1 (toItsEnd UNMAP 0 0 5 0 [])  -- unmap of an unmapped number: 5 steps
     ∷ accepted 1 1 2 1 (toItsEnd WRITE 0 7 16 0 (toItsEnd UNMAP 0 0 11 0 []))  -- of a mapped one: 11
     ∷ accepted 1 1 2 1 (toItsEnd LEVEL 0 0 7 0 [])  -- level on fresh: 7 steps, value 0
-    ∷ record { t = 1; n = 2; p = 3; d = 2; number = WENT; lines = usedTwo (toItsEnd LEVEL 0 0 18 1 []); end = exactly levelled }  -- levelling gives 1, to its bytes
+    ∷ record { t = 1; n = 2; p = 3; d = 2; number = WENT; exchanges = usedTwo (toItsEnd LEVEL 0 0 18 1 []); end = exactly levelled }  -- levelling gives 1, to its bytes
     ∷ accepted 1 2 3 2 (usedTwo (toItsEnd LEVEL 0 0 18 1 (toItsEnd READ 1 0 6 9 (toItsEnd READ 0 0 3 0 []))))  -- read 1 gives 9, read 0 gives 0
     -- two that stand beside these and bear no star
     ∷ accepted 1 2 3 2 (usedTwo (toItsEnd LEVEL 0 0 18 1 (toItsEnd LEVEL 0 0 7 0 [])))  -- a second level gives 0

@@ -14,7 +14,7 @@ use Rattle.meaning.specs.Step.{apply, nothing}
 use Rattle.store.specs.Layout.{pAt, lockAt, ownerAt, threadsAt, threadWords}
 use Rattle.store.specs.Area.{Bytes, decode}
 use Rattle.store.specs.Live.{Live, Within, BecomeFits, EntryFits, EntryBelow, EntryWithin, Small, withEffect, putWord, putBecome, putEntry, putThread}
-use Rattle.store.proofs.Words.{bytes-put}
+use Rattle.store.proofs.Bytes.{bytes-put}
 use Rattle.store.proofs.Tables.{lockOnly, ownerOnly, live-become, live-entry, within-entry, decode-lock, decode-owner, live-thread, decode-thread}
 use Rattle.machine.specs.Settling.{Stored}
 

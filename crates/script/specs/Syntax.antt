@@ -66,9 +66,9 @@ field (c ∷ cs) = cond (eqb c BLANK) (number cs) missing
 -- ---- a line
 
 -- what is made of the number and of what follows it; where there is none, the other
-abbrev pub reading : {A : Type 0} → Read → A → (ℕ → List ℕ → A) → A
-reading missing other make = other
-reading (got v rest) other make = make v rest
+abbrev pub onField : {A : Type 0} → Read → A → (ℕ → List ℕ → A) → A
+onField missing other make = other
+onField (got v rest) other make = make v rest
 
 -- the one where nothing follows, and else the other
 abbrev pub ending : {A : Type 0} → List ℕ → A → A → A
@@ -78,10 +78,10 @@ ending (c ∷ cs) other one = other
 -- four fields and nothing after them
 abbrev pub four : List ℕ → Four
 four cs₀ =
-    reading (field cs₀) Fewer (λ w cs₁.
-    reading (field cs₁) Fewer (λ x cs₂.
-    reading (field cs₂) Fewer (λ y cs₃.
-    reading (field cs₃) Fewer (λ z cs₄.
+    onField (field cs₀) Fewer (λ w cs₁.
+    onField (field cs₁) Fewer (λ x cs₂.
+    onField (field cs₂) Fewer (λ y cs₃.
+    onField (field cs₃) Fewer (λ z cs₄.
     ending cs₄ Fewer (All w x y z)))))
 
 abbrev pub asFormat : Four → Command
@@ -94,7 +94,7 @@ asBegin (All t op n c) = Begin t op n c
 
 -- one field and nothing after it
 abbrev pub asStep : Read → Command
-asStep field = reading field Bad (λ t cs. ending cs Bad (Step t))
+asStep field = onField field Bad (λ t cs. ending cs Bad (Step t))
 
 -- "`f T N P D` formats a new store, `b t op n c` begins, `s t` steps.": a line's first byte and the others
 abbrev pub lettered : ℕ → List ℕ → Command

@@ -15,7 +15,7 @@ use Rattle.meaning.specs.Store.{Store, idle}
 use Rattle.store.specs.Layout.{tAt, nAt, pAt, dAt, lockAt, ownerAt, threadsAt, threadWords, mapAt, locksAt, blocksAt, blockWords, areaWords, size}
 use Rattle.store.specs.Area.{Bytes, word, bytes, rows, threadRow, blockRow, words, encode, threadFrom, column, storeOf, decode}
 use Rattle.store.proofs.Decode.{below-is}
-use Rattle.store.proofs.Words.{span, bytes-span, word-bytes, length-bytes}
+use Rattle.store.proofs.Bytes.{span, bytes-span, word-bytes, length-bytes}
 use Rattle.store.proofs.Sound.{Fitted}
 
 -- ---- encode after decode

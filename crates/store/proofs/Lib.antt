@@ -1,7 +1,7 @@
 -- The laws that the functions' proofs and the crates above cite, a file a subject.
 pub mod Every
-pub mod Lines
-pub mod Words
+pub mod LastLines
+pub mod Bytes
 pub mod Decode
 pub mod Sound
 pub mod Codec

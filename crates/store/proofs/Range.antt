@@ -17,8 +17,8 @@ use Rattle.meaning.proofs.Base.Words.{either-way}
 use Rattle.store.specs.Layout.{tAt, size}
 use Rattle.store.specs.Area.{Bytes, word, rows, threadRow, blockRow, words, encode, column, decode, wellFormed}
 use Rattle.store.specs.Calls.{formatArea, Formatted, format}
-use Rattle.store.proofs.Words.{OfWords, low-at, low-append, word-low, bytes-bytes}
-use Rattle.store.proofs.Lines.{few-lines}
+use Rattle.store.proofs.Bytes.{OfWords, low-at, low-append, word-low, bytes-bytes}
+use Rattle.store.proofs.LastLines.{few-lines}
 use Rattle.store.proofs.Sound.{Sizes, limits-sizes, SoundThread, Sound, wellFormed-sound}
 use Rattle.store.proofs.Codec.{InRange, encode-decode, decode-encode, length-encode}
 

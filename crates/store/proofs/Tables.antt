@@ -23,7 +23,7 @@ use Rattle.meaning.proofs.Base.Words.{upd-same, upd-other, either-way}
 use Rattle.store.specs.Layout.{tAt, nAt, pAt, dAt, lockAt, ownerAt, threadsAt, threadWords, mapAt, locksAt, blocksAt, blockWords, size}
 use Rattle.store.specs.Area.{word, threadRow, threadFrom, column, storeOf, decode}
 use Rattle.store.specs.Live.{Live, Within, EntryWithin, BecomeFits, EntryFits, EntryBelow, Small, withEffect, putWord, putThread, putBecome, putEntry}
-use Rattle.store.proofs.Words.{word-put, length-putWord, OfWords, putFrom, updFrom, word-putFrom, updFrom-other, updFrom-at}
+use Rattle.store.proofs.Bytes.{word-put, length-putWord, OfWords, putFrom, updFrom, word-putFrom, updFrom-other, updFrom-at}
 use Rattle.store.proofs.Decode.{decode-live, below-is}
 
 -- ---- tables that are kept

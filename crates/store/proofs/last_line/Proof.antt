@@ -1,7 +1,7 @@
 -- `store::last_line` meets its contract. Assumes nothing.
 use borrow.Author.Needs.{needs}
 use native.Mathlib.Omega.{arith}
-use Rattle.store.proofs.Lines.{lastLine-table, lastLine-none}
+use Rattle.store.proofs.LastLines.{lastLine-table, lastLine-none}
 use Rattle.store.proofs.last_line.Statement.{statement}
 use Rattle.store.proofs.last_line.Tie as tie
 

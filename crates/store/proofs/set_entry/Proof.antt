@@ -12,7 +12,7 @@ add-cell : tie.Need-add-cell
 add-cell c = omega (arith, rw (c .before .e .given .1) at (c .before .before .before .before .pre))
 
 put-word-requires : tie.Need-put-word-requires
-put-word-requires c κs = rw (c .before .before .e .given .1) at (c .before .before .before .before .before .pre)
+put-word-requires c κs = omega (arith, rw (c .before .before .e .given .1) at (c .before .before .before .before .before .pre))
 
 returns : tie.Need-returns
 returns c = rw (c .enum-told .given .1) (refl, tt)

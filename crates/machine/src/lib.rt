@@ -328,8 +328,6 @@ pub fn judge(area: &[u8], z: Sizes, t: u32, r: Thread) -> Verdict
     let locks = store::locks_at(z.t, z.n);
     let header = store::blocks_at(z.t, z.n);
     let threads = store::THREAD_WORDS * z.t;
-    let numbers = z.n;
-    let blocks = z.p;
     let mut s = Store::fresh();
     s.t = store::word_at(area, store::T_AT);
     s.n = store::word_at(area, store::N_AT);
@@ -338,12 +336,12 @@ pub fn judge(area: &[u8], z: Sizes, t: u32, r: Thread) -> Verdict
     s.lock = store::word_at(area, store::LOCK_AT);
     s.owner = store::word_at(area, store::OWNER_AT);
     store::read_threads(area, store::THREADS_AT, threads, &mut s.threads);
-    store::read_numbers(area, map, numbers, &mut s.map);
-    store::read_numbers(area, locks, numbers, &mut s.locks);
-    store::read_blocks(area, header, blocks, &mut s.header);
-    store::read_blocks(area, header + store::CONTENT, blocks, &mut s.content);
-    store::read_blocks(area, header + store::WEAR, blocks, &mut s.wear);
-    store::read_blocks(area, header + store::OWN, blocks, &mut s.own);
+    store::read_numbers(area, map, z.n, &mut s.map);
+    store::read_numbers(area, locks, z.n, &mut s.locks);
+    store::read_blocks(area, header, z.p, &mut s.header);
+    store::read_blocks(area, header + store::CONTENT, z.p, &mut s.content);
+    store::read_blocks(area, header + store::WEAR, z.p, &mut s.wear);
+    store::read_blocks(area, header + store::OWN, z.p, &mut s.own);
     let near = words_near(
         r,
         s.p,

@@ -13,7 +13,7 @@ use Rattle.script.specs.declared.Command.the-variants.{Bad}
 use Rattle.script.specs.Syntax.{BLANK, LETTER-F, LETTER-B, LETTER-S, missing, field, lettered, command, line, lines}
 use Rattle.script.specs.Printing.{printed, mostPrinted, Wrote}
 use Rattle.script.specs.Output.{FORM, LONG, mostInput, mostOutput, stopped, replied, heard, answers, output, fitting}
-use Rattle.script.specs.Positions.{wordRange, Ready}
+use Rattle.script.specs.Positions.{wordRange, Roomy}
 use Rattle.script.proofs.Writing.{wrote-then, printed-most}
 use Rattle.script.proofs.Turns.{taken}
 
@@ -67,7 +67,7 @@ fitting-ample out bs h = rw (le-leb _ _ h)
 -- ---- the loop
 
 -- with so much of the input read and of the output written, whatever writes the rest has written all
-pub record Going (input buffer₀ out₀ buffer out : List ℕ) (at used end : ℕ) : Type 0 where
+pub record RunningAt (input buffer₀ out₀ buffer out : List ℕ) (at used end : ℕ) : Type 0 where
   pub reached : at ≤ length input
   pub held : used ≤ length buffer
   pub same-buffer : length buffer ≡ length buffer₀
@@ -77,8 +77,8 @@ pub record Going (input buffer₀ out₀ buffer out : List ℕ) (at used end : �
       (r : ℕ) (b : List ℕ) → Wrote out end (answers (take used buffer) (lines (drop at input))) r b
       → Wrote out₀ 0 (answers [] (lines input)) r b
 
-pub going-start : (input buffer out : List ℕ) → Going input buffer out buffer out 0 0 0
-going-start input buffer out =
+pub running-start : (input buffer out : List ℕ) → RunningAt input buffer out buffer out 0 0 0
+running-start input buffer out =
     record {
       reached = omega arith;
       held = omega arith;
@@ -88,11 +88,11 @@ going-start input buffer out =
       rest = λ r b w. w;
     }
 
-module _ {input buffer₀ out₀ buffer out : List ℕ} {at used end : ℕ} (g : Going input buffer₀ out₀ buffer out at used end)
-    (ready : Ready input buffer₀ out₀) where
+module _ {input buffer₀ out₀ buffer out : List ℕ} {at used end : ℕ} (g : RunningAt input buffer₀ out₀ buffer out at used end)
+    (ready : Roomy input buffer₀ out₀) where
   -- there is room for one line more
-  pub going-room : end + mostPrinted ≤ length out
-  going-room = omega arith
+  pub running-room : end + mostPrinted ≤ length out
+  running-room = omega arith
 
   -- a line was answered, and the answer was printed
   module _ (e : ℕ) (from : at ≤ e) (inside : e < length input)
@@ -107,11 +107,11 @@ module _ {input buffer₀ out₀ buffer out : List ℕ} {at used end : ℕ} (g :
         let three = replied-long (take used buffer) (take (e - at) (drop at input)) (taken both kept buffer′) turn in
         omega (arith, rw (length-take, length-drop) at three)
 
-    pub going-on : Going input buffer₀ out₀ buffer′ out′ (e + 1) kept end′
-    going-on =
+    pub running-on : RunningAt input buffer₀ out₀ buffer′ out′ (e + 1) kept end′
+    running-on =
         let short = printed-most (both / wordRange) (both % wordRange) in
         let n = length (printed (both / wordRange) (both % wordRange)) in
-        let fits-out : end + n ≤ length out = omega (arith, going-room) in
+        let fits-out : end + n ≤ length out = omega (arith, running-room) in
         record {
           reached = omega arith;
           held = omega arith;

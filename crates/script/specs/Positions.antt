@@ -56,7 +56,7 @@ Left size turns.Stop = Unit
 Left size (turns.Reply both used) = used ≤ size
 
 -- a run's slices: the input is not too long, and the buffers have room for any area and any output
-pub record Ready (input buffer out : List ℕ) : Type 0 where
+pub record Roomy (input buffer out : List ℕ) : Type 0 where
   pub short : length input ≤ mostInput
   pub room : largest ≤ length buffer
   pub ample : mostOutput ≤ length out

@@ -11,7 +11,7 @@ ghost use Rattle.store.specs.Calls.{beginArea, stepArea};
 ghost use Rattle.script.specs.Syntax.{digits, bounded, number, field, four, asFormat, asBegin, asStep, command, lines};
 ghost use Rattle.script.specs.Printing.{figures, mostPrinted, printed, Wrote};
 ghost use Rattle.script.specs.Output.{replied, formatNew, heard, answers, output, fitting};
-ghost use Rattle.script.specs.Positions.{seen, cutAt, Inside, Held, turned, Left, Ready};
+ghost use Rattle.script.specs.Positions.{seen, cutAt, Inside, Held, turned, Left, Roomy};
 use store::Store;
 
 // ---- the language
@@ -339,7 +339,7 @@ fn obey(area: &mut [u8], used: usize, command: Command) -> Turn
 
 // Line after line, with no store at first.
 fn run_lines(input: &[u8], area: &mut [u8], out: &mut [u8]) -> usize
-    requires { ⌜ Ready (now input) (now area) (now out) ⌝ }
+    requires { ⌜ Roomy (now input) (now area) (now out) ⌝ }
     ensures { λ r. ⌜ Wrote (now (out .entry)) 0 (answers [] (lines (now (input .entry)))) r (now (out .exit)) ⌝ }
 {
     let mut at: usize = 0;

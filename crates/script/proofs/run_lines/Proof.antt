@@ -1,4 +1,4 @@
--- `script::run_lines` meets its contract. The invariant is `Going`: whatever writes the rest has written all. Assumes nothing.
+-- `script::run_lines` meets its contract. The invariant is `RunningAt`: whatever writes the rest has written all. Assumes nothing.
 use mathlib.Core.Path.{_≡_, _∙_, sym, ap, subst}
 use mathlib.Core.List.{List}
 use Prim.Native.Nat.{ℕ, _+_, _-_, _≤_, _<_}
@@ -11,12 +11,12 @@ use Rattle.script.specs.Printing.{mostPrinted}
 use Rattle.script.specs.Output.{heard}
 use Rattle.script.specs.Positions.{cutAt, Inside, turned, Left}
 use Rattle.script.proofs.Writing.{wrote-nothing}
-use Rattle.script.proofs.Running.{Going, going-start, going-room, going-on, answers-stopped}
+use Rattle.script.proofs.Running.{RunningAt, running-start, running-room, running-on, answers-stopped}
 use Rattle.script.proofs.run_lines.Statement.{statement}
 use Rattle.script.proofs.run_lines.Tie as tie
 
 abbrev Inv-loop : tie.InvT-loop
-Inv-loop input area₀ out₀ at₀ used₀ end₀ area out at used end = Going input area₀ out₀ area out at used end
+Inv-loop input area₀ out₀ at₀ used₀ end₀ area out at used end = RunningAt input area₀ out₀ area out at used end
 
 abbrev μ-loop : tie.MeasureT-loop
 μ-loop input area₀ out₀ at₀ used₀ end₀ area out at used end = length input - at
@@ -24,7 +24,7 @@ abbrev μ-loop : tie.MeasureT-loop
 loop-holds : tie.Need-loop-holds Inv-loop μ-loop
 loop-holds c =
     let x = c .before .before .before .args in
-    going-start (now (x .input)) (now (x .area)) (now (x .out))
+    running-start (now (x .input)) (now (x .area)) (now (x .out))
 
 -- ---- places of the code
 
@@ -94,7 +94,7 @@ obeyed c = c .obey .ensures .0 ∙ ap (heard (area c)) (c .before .before .read-
 
 -- a reply has room in every turn
 room : (c : tie.At-loop Inv-loop μ-loop) → c .loop .end + mostPrinted ≤ length (c .loop .out)
-room c = going-room (c .loop .inv) (start c .pre)
+room c = running-room (c .loop .inv) (start c .pre)
 
 -- ---- the answers
 
@@ -134,7 +134,7 @@ loop-again c =
     let was = obeyed-turn did in
     let heard-it = sym (ap (turned (k .last .0)) (b .given .1)) ∙ obeyed did in
     let fits = subst (Left (length (was .loop .area))) (b .given .1) (k .ensures .1) in
-    going-on (was .loop .inv) (start was .pre) (stop here) (inside here .0) (inside here .1) (cut here) (b .given .0 .0) (b .given .0 .1 .0)
+    running-on (was .loop .inv) (start was .pre) (stop here) (inside here .0) (inside here .1) (cut here) (b .given .0 .0) (b .given .0 .1 .0)
     (k .last .0) fits (k .kept .0) heard-it (w .result) (w .last .0) (w .kept .0) (w .ensures)
 
 -- ---- the lengths stay

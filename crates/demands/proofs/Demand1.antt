@@ -27,7 +27,7 @@ use Rattle.store.specs.Layout.{size}
 use Rattle.store.specs.Area.{Bytes, encode, decode, wellFormed}
 use Rattle.store.specs.Calls.{formatArea, callArea, stepArea, Grown}
 use Rattle.demands.specs.RefusalTables.{known, rests, operable, numbered, Refusals, UnfinishedValue, Open, CanStep, SameSizes}
-use Rattle.demands.proofs.Refusals.{numbered, refusal-tables, calling-each, call-refusing}
+use Rattle.demands.proofs.Refusals.{given, refusal-tables, calling-each, call-refusing}
 use Rattle.demands.proofs.Bridge.{after-call, grown-good, grown-inv}
 
 -- ---- what a call answers and leaves, of every area
@@ -104,7 +104,7 @@ grown-no-fault a g t x =
 pub number-decoded : (a : List ℕ) → wellFormed a ≡ true → (e : Entry) → callArea a e .number ≡ callStore (decode a) e .number
 number-decoded a f e = rw f (go (calling (decode a) e))
   where
-    go : (o : Outcome) → numbered a o ≡ reply (λ s. s) (decode a) o .number
+    go : (o : Outcome) → given a o ≡ reply (λ s. s) (decode a) o .number
     go (refused number) = refl
     go (left number value s) = refl
 

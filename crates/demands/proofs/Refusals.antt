@@ -29,31 +29,31 @@ use Rattle.demands.specs.RefusalTables.{FormatRefusals, BeginRefusals, S
 
 module _ (a : List ℕ) where
   -- the number that an outcome of a call on the area gives
-  abbrev pub numbered : Outcome → ℕ
-  numbered o = reply encode a o .number
+  abbrev pub given : Outcome → ℕ
+  given o = reply encode a o .number
 
   -- a check's own number
-  numbered-own : (b : Bool) (number : ℕ) (o : Outcome) → (numbered o ≡ number → ⊥) → (numbered (check b number o) ≡ number) ↔ (b ≡ false)
-  numbered-own true number o apart = (λ e. absurd (apart e), λ e. clash refl e)
-  numbered-own false number o apart = (λ e. refl, λ e. refl)
+  given-own : (b : Bool) (number : ℕ) (o : Outcome) → (given o ≡ number → ⊥) → (given (check b number o) ≡ number) ↔ (b ≡ false)
+  given-own true number o apart = (λ e. absurd (apart e), λ e. clash refl e)
+  given-own false number o apart = (λ e. refl, λ e. refl)
 
   -- a number of those after it
-  numbered-later : (b : Bool) (number other : ℕ) (o : Outcome) {C : Type 0} → eqb number other ≡ false → (numbered o ≡ other) ↔ C →
-      (numbered (check b number o) ≡ other) ↔ ((b ≡ true) × C)
-  numbered-later true number other o apart f = (λ e. (refl, f .0 e), λ c. f .1 (c .1))
-  numbered-later false number other o apart f = (λ e. absurd (eqb-false number other apart e), λ c. clash (c .0) refl)
+  given-later : (b : Bool) (number other : ℕ) (o : Outcome) {C : Type 0} → eqb number other ≡ false → (given o ≡ other) ↔ C →
+      (given (check b number o) ≡ other) ↔ ((b ≡ true) × C)
+  given-later true number other o apart f = (λ e. (refl, f .0 e), λ c. f .1 (c .1))
+  given-later false number other o apart f = (λ e. absurd (eqb-false number other apart e), λ c. clash (c .0) refl)
 
   -- a number of neither
-  numbered-never : (b : Bool) (number other : ℕ) (o : Outcome) → eqb number other ≡ false → (numbered o ≡ other → ⊥) →
-      numbered (check b number o) ≡ other → ⊥
-  numbered-never true number other o apart never = never
-  numbered-never false number other o apart never = eqb-false number other apart
+  given-never : (b : Bool) (number other : ℕ) (o : Outcome) → eqb number other ≡ false → (given o ≡ other → ⊥) →
+      given (check b number o) ≡ other → ⊥
+  given-never true number other o apart never = never
+  given-never false number other o apart never = eqb-false number other apart
 
   -- the number of what is left where the last check holds
-  numbered-last : (b : Bool) (number other : ℕ) (o : Outcome) → eqb number other ≡ false → numbered o ≡ other →
-      (numbered (check b number o) ≡ other) ↔ (b ≡ true)
-  numbered-last true number other o apart is = (λ e. refl, λ e. is)
-  numbered-last false number other o apart is = (λ e. absurd (eqb-false number other apart e), λ e. clash e refl)
+  given-last : (b : Bool) (number other : ℕ) (o : Outcome) → eqb number other ≡ false → given o ≡ other →
+      (given (check b number o) ≡ other) ↔ (b ≡ true)
+  given-last true number other o apart is = (λ e. refl, λ e. is)
+  given-last false number other o apart is = (λ e. absurd (eqb-false number other apart e), λ e. clash e refl)
 
   format-refusals : (t n p d : ℕ) → FormatRefusals a t n p d
   format-refusals t n p d =
@@ -62,9 +62,9 @@ module _ (a : List ℕ) where
       let limits = inLimits t n p d in
       let fitted = check fits SHAPE done in
       record {
-        limits = numbered-own limits LIMITS fitted (numbered-never fits SHAPE LIMITS done refl (λ e. omega arith));
-        shape = numbered-later limits LIMITS SHAPE fitted refl (numbered-own fits SHAPE done (λ e. omega arith));
-        went = numbered-later limits LIMITS WENT fitted refl (numbered-last fits SHAPE WENT done refl refl);
+        limits = given-own limits LIMITS fitted (given-never fits SHAPE LIMITS done refl (λ e. omega arith));
+        shape = given-later limits LIMITS SHAPE fitted refl (given-own fits SHAPE done (λ e. omega arith));
+        went = given-later limits LIMITS WENT fitted refl (given-last fits SHAPE WENT done refl refl);
       }
 
   begin-refusals : (t op n c : ℕ) → BeginRefusals a t op n c
@@ -82,46 +82,46 @@ module _ (a : List ℕ) where
       let shape = wellFormed a in
       record {
         shape =
-            numbered-own shape SHAPE o₁
-            (numbered-never thread THREAD SHAPE o₂ refl
-            (numbered-never busy BUSY SHAPE o₃ refl
-            (numbered-never operation OPERATION SHAPE o₄ refl
-            (numbered-never logical LOGICAL SHAPE o₅ refl (λ e. omega arith)))));
+            given-own shape SHAPE o₁
+            (given-never thread THREAD SHAPE o₂ refl
+            (given-never busy BUSY SHAPE o₃ refl
+            (given-never operation OPERATION SHAPE o₄ refl
+            (given-never logical LOGICAL SHAPE o₅ refl (λ e. omega arith)))));
         thread =
-            numbered-later shape SHAPE THREAD o₁ refl
-            (numbered-own thread THREAD o₂
-            (numbered-never busy BUSY THREAD o₃ refl
-            (numbered-never operation OPERATION THREAD o₄ refl
-            (numbered-never logical LOGICAL THREAD o₅ refl (λ e. omega arith)))));
+            given-later shape SHAPE THREAD o₁ refl
+            (given-own thread THREAD o₂
+            (given-never busy BUSY THREAD o₃ refl
+            (given-never operation OPERATION THREAD o₄ refl
+            (given-never logical LOGICAL THREAD o₅ refl (λ e. omega arith)))));
         busy =
-            numbered-later shape SHAPE BUSY o₁ refl
-            (numbered-later thread THREAD BUSY o₂ refl
-            (numbered-own busy BUSY o₃
-            (numbered-never operation OPERATION BUSY o₄ refl
-            (numbered-never logical LOGICAL BUSY o₅ refl (λ e. omega arith)))));
+            given-later shape SHAPE BUSY o₁ refl
+            (given-later thread THREAD BUSY o₂ refl
+            (given-own busy BUSY o₃
+            (given-never operation OPERATION BUSY o₄ refl
+            (given-never logical LOGICAL BUSY o₅ refl (λ e. omega arith)))));
         operation =
-            numbered-later shape SHAPE OPERATION o₁ refl
-            (numbered-later thread THREAD OPERATION o₂ refl
-            (numbered-later busy BUSY OPERATION o₃ refl
-            (numbered-own operation OPERATION o₄
-            (numbered-never logical LOGICAL OPERATION o₅ refl (λ e. omega arith)))));
+            given-later shape SHAPE OPERATION o₁ refl
+            (given-later thread THREAD OPERATION o₂ refl
+            (given-later busy BUSY OPERATION o₃ refl
+            (given-own operation OPERATION o₄
+            (given-never logical LOGICAL OPERATION o₅ refl (λ e. omega arith)))));
         logical =
-            numbered-later shape SHAPE LOGICAL o₁ refl
-            (numbered-later thread THREAD LOGICAL o₂ refl
-            (numbered-later busy BUSY LOGICAL o₃ refl
-            (numbered-later operation OPERATION LOGICAL o₄ refl
-            (numbered-own logical LOGICAL o₅ (λ e. omega arith)))));
+            given-later shape SHAPE LOGICAL o₁ refl
+            (given-later thread THREAD LOGICAL o₂ refl
+            (given-later busy BUSY LOGICAL o₃ refl
+            (given-later operation OPERATION LOGICAL o₄ refl
+            (given-own logical LOGICAL o₅ (λ e. omega arith)))));
         went =
-            numbered-later shape SHAPE WENT o₁ refl
-            (numbered-later thread THREAD WENT o₂ refl
-            (numbered-later busy BUSY WENT o₃ refl
-            (numbered-later operation OPERATION WENT o₄ refl
-            (numbered-last logical LOGICAL WENT o₅ refl refl))));
+            given-later shape SHAPE WENT o₁ refl
+            (given-later thread THREAD WENT o₂ refl
+            (given-later busy BUSY WENT o₃ refl
+            (given-later operation OPERATION WENT o₄ refl
+            (given-last logical LOGICAL WENT o₅ refl refl))));
       }
 
   -- a line's own numbers
 
-  line-never : (t : ℕ) (v : Verdict) (number : ℕ) → BLOCKED < number → number < FAULT → numbered (told (decode a) t v) ≡ number → ⊥
+  line-never : (t : ℕ) (v : Verdict) (number : ℕ) → BLOCKED < number → number < FAULT → given (told (decode a) t v) ≡ number → ⊥
   line-never t Blocked number low high e = omega arith
   line-never t Fault number low high e = omega arith
   line-never t (Go r f) number low high e = omega arith
@@ -129,7 +129,7 @@ module _ (a : List ℕ) where
 
   -- the number of a verdict, and the verdict of a number
   abbrev saying : ℕ → Verdict → ℕ
-  saying t v = numbered (told (decode a) t v)
+  saying t v = given (told (decode a) t v)
 
   is-blocked : (t : ℕ) (v : Verdict) → saying t v ≡ BLOCKED → v ≡ Blocked
   is-blocked t Blocked e = refl
@@ -165,36 +165,36 @@ module _ (a : List ℕ) where
       let thread = ltb t (s .threads) in
       let o₁ = check thread THREAD o₂ in
       let shape = wellFormed a in
-      let own = numbered-own idle IDLE o₃ (line-never t v IDLE (omega arith) (omega arith)) in
+      let own = given-own idle IDLE o₃ (line-never t v IDLE (omega arith) (omega arith)) in
       record {
         shape =
-            numbered-own shape SHAPE o₁
-            (numbered-never thread THREAD SHAPE o₂ refl
-            (numbered-never idle IDLE SHAPE o₃ refl (line-never t v SHAPE (omega arith) (omega arith))));
+            given-own shape SHAPE o₁
+            (given-never thread THREAD SHAPE o₂ refl
+            (given-never idle IDLE SHAPE o₃ refl (line-never t v SHAPE (omega arith) (omega arith))));
         thread =
-            numbered-later shape SHAPE THREAD o₁ refl
-            (numbered-own thread THREAD o₂
-            (numbered-never idle IDLE THREAD o₃ refl (line-never t v THREAD (omega arith) (omega arith))));
+            given-later shape SHAPE THREAD o₁ refl
+            (given-own thread THREAD o₂
+            (given-never idle IDLE THREAD o₃ refl (line-never t v THREAD (omega arith) (omega arith))));
         idle =
-            numbered-later shape SHAPE IDLE o₁ refl
-            (numbered-later thread THREAD IDLE o₂ refl
+            given-later shape SHAPE IDLE o₁ refl
+            (given-later thread THREAD IDLE o₂ refl
             (λ e. not-false (isIdle (s .thread t)) (own .0 e), λ e. own .1 (rw e)));
         blocked =
-            numbered-later shape SHAPE BLOCKED o₁ refl
-            (numbered-later thread THREAD BLOCKED o₂ refl
-            (numbered-later idle IDLE BLOCKED o₃ refl (is-blocked t v, λ e. ap (saying t) e)));
+            given-later shape SHAPE BLOCKED o₁ refl
+            (given-later thread THREAD BLOCKED o₂ refl
+            (given-later idle IDLE BLOCKED o₃ refl (is-blocked t v, λ e. ap (saying t) e)));
         fault =
-            numbered-later shape SHAPE FAULT o₁ refl
-            (numbered-later thread THREAD FAULT o₂ refl
-            (numbered-later idle IDLE FAULT o₃ refl (is-fault t v, λ e. ap (saying t) e)));
+            given-later shape SHAPE FAULT o₁ refl
+            (given-later thread THREAD FAULT o₂ refl
+            (given-later idle IDLE FAULT o₃ refl (is-fault t v, λ e. ap (saying t) e)));
         went =
-            numbered-later shape SHAPE WENT o₁ refl
-            (numbered-later thread THREAD WENT o₂ refl
-            (numbered-later idle IDLE WENT o₃ refl (is-go t v, λ c. ap (saying t) (c .2))));
+            given-later shape SHAPE WENT o₁ refl
+            (given-later thread THREAD WENT o₂ refl
+            (given-later idle IDLE WENT o₃ refl (is-go t v, λ c. ap (saying t) (c .2))));
         finished =
-            numbered-later shape SHAPE FINISHED o₁ refl
-            (numbered-later thread THREAD FINISHED o₂ refl
-            (numbered-later idle IDLE FINISHED o₃ refl (is-done t v, λ c. ap (saying t) (c .2))));
+            given-later shape SHAPE FINISHED o₁ refl
+            (given-later thread THREAD FINISHED o₂ refl
+            (given-later idle IDLE FINISHED o₃ refl (is-done t v, λ c. ap (saying t) (c .2))));
       }
 
   pub refusal-tables : Refusals a

@@ -19,6 +19,7 @@ use Rattle.meaning.specs.Store.{Store, fresh}
 use Rattle.meaning.specs.Programs.{WRITE, LEVEL, actAt}
 use Rattle.meaning.specs.Step.{perform, apply, nothing}
 use Rattle.meaning.specs.Call.{Reply, Entry, begin, step, reply, told, begun, isIdle}
+use Rattle.meaning.proofs.Base.Schedules.{replyOf}
 use Rattle.store.specs.Layout.{tAt, nAt, pAt, threadsAt, threadWords, size}
 use Rattle.store.specs.Area.{Bytes, word, threadFrom, encode, decode, wellFormed}
 use Rattle.store.specs.Live.{Live, Within}
@@ -35,13 +36,10 @@ use Rattle.calls.specs.Means.{Replied}
 -- ---- from a reply to a contract
 
 abbrev pub refusal : ℕ → List ℕ → Reply (List ℕ)
-refusal number a = record { number = number; value = 0; after = a }
+refusal number a = replyOf number 0 a
 
-abbrev pub replyOf : ℕ → ℕ → List ℕ → Reply (List ℕ)
-replyOf number value b = record { number = number; value = value; after = b }
-
-pub replied : {y : Reply (List ℕ)} (number value : ℕ) {b : List ℕ} {r : ℕ} {x : List ℕ} → y ≡ replyOf number value b → r ≡ packed number value → x ≡ b → Replied y r x
-replied number value e q i = rw e (q, i)
+pub reply-meets : {y : Reply (List ℕ)} (number value : ℕ) {b : List ℕ} {r : ℕ} {x : List ℕ} → y ≡ replyOf number value b → r ≡ packed number value → x ≡ b → Replied y r x
+reply-meets number value e q i = rw e (q, i)
 
 -- ---- a well-formed area
 

@@ -38,13 +38,13 @@ packed-value n v h = omega arith
 
 -- ---- a step's verdict finishes with a word
 
-data Small : Verdict → Type 0 where
-  blocked : Small Blocked
-  fault : Small Fault
-  go : {r : _} {e : _} → Small (Go r e)
-  done : {v : ℕ} {e : _} → v ≤ mostWord → Small (Done v e)
+data SmallValue : Verdict → Type 0 where
+  blocked : SmallValue Blocked
+  fault : SmallValue Fault
+  go : {r : _} {e : _} → SmallValue (Go r e)
+  done : {v : ℕ} {e : _} → v ≤ mostWord → SmallValue (Done v e)
 
-small-cond : {v w : Verdict} (b : Bool) → Small v → Small w → Small (cond b v w)
+small-cond : {v w : Verdict} (b : Bool) → SmallValue v → SmallValue w → SmallValue (cond b v w)
 small-cond true x y = x
 small-cond false x y = y
 
@@ -56,11 +56,11 @@ answer-small Zero r h = omega arith
 answer-small C r h = h
 answer-small Moved r h = moved-small (r .h)
 
-choosing-small : (wear : ℕ → ℕ) (distance : ℕ) (r : Thread) (to from : Found) → Small (choosing wear distance r to from)
+choosing-small : (wear : ℕ → ℕ) (distance : ℕ) (r : Thread) (to from : Found) → SmallValue (choosing wear distance r to from)
 choosing-small wear distance r Nobody from = fault
 choosing-small wear distance r (At to) from = go
 
-perform-small : (a : Act) (s : Store) (t : ℕ) (r : Thread) → r .c ≤ mostWord → Small (perform a s t r)
+perform-small : (a : Act) (s : Store) (t : ℕ) (r : Thread) → r .c ≤ mostWord → SmallValue (perform a s t r)
 perform-small Nothing s t r h = fault
 perform-small TakeH s t r h = small-cond (free (s .lock)) go blocked
 perform-small ReleaseH s t r h = small-cond (heldBy t (s .lock)) go fault
@@ -106,7 +106,7 @@ worth-value : (a : List ℕ) {o : Outcome} → Worth o → reply encode a o .val
 worth-value a nothing = omega arith
 worth-value a (value h) = h
 
-worth-told : (s : Store) (t : ℕ) {v : Verdict} → Small v → Worth (told s t v)
+worth-told : (s : Store) (t : ℕ) {v : Verdict} → SmallValue v → Worth (told s t v)
 worth-told s t blocked = nothing
 worth-told s t fault = nothing
 worth-told s t go = value {v = 0} (omega arith)

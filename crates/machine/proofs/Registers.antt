@@ -8,14 +8,14 @@ use Rattle.meaning.specs.Store.{Store}
 use Rattle.meaning.specs.declared.Act.{Act}
 use Rattle.meaning.specs.declared.Verdict.{Verdict}
 use Rattle.meaning.specs.Step.{block, perform}
-use Rattle.store.specs.declared.Store.{Store as Working}
+use Rattle.store.specs.declared.Store.{Store as WorkingStore}
 use Rattle.store.specs.Live.{table, view}
 use Rattle.machine.specs.declared.Near.{Near}
 use Rattle.machine.specs.Judging.{Sees, nearOf, ownOf, headerOf}
 
 -- the words near a record are those of the working store
 pub near-sees :
-    (w : Working) (r : Thread) {x : Near} →
+    (w : WorkingStore) (r : Thread) {x : Near} →
     x ≡ nearOf r (w .p) (w .d) (w .lock) (w .owner) (table (w .map)) (table (w .locks)) (table (w .header)) (table (w .content)) (table (w .wear)) (table (w .own)) →
     Sees (view w) r x
 near-sees w r e =

@@ -17,6 +17,7 @@ use Rattle.meaning.specs.Store.{Store}
 use Rattle.meaning.specs.declared.Effect.{Effect}
 use Rattle.meaning.specs.declared.Verdict.{Verdict}
 use Rattle.meaning.specs.Step.{next, setP, setQ, nothing}
+use Rattle.meaning.proofs.Base.Searches.{finds, finds-nobody, Best, best-finds}
 use Rattle.machine.specs.Judging.{placeOf, chosenOf, Searches}
 
 -- ---- the lowest free block
@@ -40,18 +41,11 @@ lowest-found header k (suc n) e h l = by-order (decLt k n) (λ q. lowest-found h
 
 -- what is found is among the first n
 best-below : (eligible : ℕ → Bool) (beats : ℕ → ℕ → Bool) (n room : ℕ) → n ≤ room → 0 < room → placeOf (best eligible beats n) < room
-best-below eligible beats zero room h p = p
-best-below eligible beats (suc n) room h p =
-    kept (eligible n) (best eligible beats n) (best-below eligible beats n room (omega arith) p)
+best-below eligible beats n room h p = by-found (best-finds eligible beats n)
   where
-    picked : (b : Bool) (m : ℕ) → m < room → placeOf (cond b (At n) (At m)) < room
-    picked true m q = omega arith
-    picked false m q = q
-
-    kept : (b : Bool) (f : Found) → placeOf f < room → placeOf (challenge b beats n f) < room
-    kept false f q = q
-    kept true Nobody q = omega arith
-    kept true (At m) q = picked (beats n m) m q
+    by-found : Best eligible beats n → placeOf (best eligible beats n) < room
+    by-found (finds m b f e) = rw e (omega arith)
+    by-found (finds-nobody all e) = rw e p
 
 -- which blocks are in question in the search for "to" and for "from", and which of two beats the other
 abbrev unused : (ℕ → ℕ) → ℕ → Bool
@@ -67,11 +61,11 @@ abbrev lessWorn : (ℕ → ℕ) → ℕ → ℕ → Bool
 lessWorn wear k m = ltb (wear k) (wear m)
 
 -- what a search finds is below the bound on blocks
-pub to-below : (header wear : ℕ → ℕ) (n : ℕ) {f : Found} → f ≡ toBlock header wear n → n ≤ mostBlocks → placeOf f < mostBlocks
-to-below header wear n e h = rw e (best-below (unused header) (moreWorn wear) n mostBlocks h (omega arith))
+pub to-block-below : (header wear : ℕ → ℕ) (n : ℕ) {f : Found} → f ≡ toBlock header wear n → n ≤ mostBlocks → placeOf f < mostBlocks
+to-block-below header wear n e h = rw e (best-below (unused header) (moreWorn wear) n mostBlocks h (omega arith))
 
-pub from-below : (header wear : ℕ → ℕ) (n : ℕ) {f : Found} → f ≡ leastWorn header wear n → n ≤ mostBlocks → placeOf f < mostBlocks
-from-below header wear n e h = rw e (best-below (used header) (lessWorn wear) n mostBlocks h (omega arith))
+pub least-worn-below : (header wear : ℕ → ℕ) (n : ℕ) {f : Found} → f ≡ leastWorn header wear n → n ≤ mostBlocks → placeOf f < mostBlocks
+least-worn-below header wear n e h = rw e (best-below (used header) (lessWorn wear) n mostBlocks h (omega arith))
 
 -- ---- a search that keeps a mark of the best
 

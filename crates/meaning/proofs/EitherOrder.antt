@@ -27,7 +27,7 @@ use Rattle.meaning.specs.Programs.{actAt}
 use Rattle.meaning.specs.Step.{block, setC, nothing, next, need, touches, perform, verdict, become, put, apply}
 use Rattle.meaning.specs.Call.{Reply, step, callStore, told, reply, isIdle}
 use Rattle.meaning.proofs.Base.Words.{either-way, by-held, clash, and-left, and-right, or-way, by-other, held-once, held-not-free, upd-same, upd-other, upd-each}
-use Rattle.meaning.proofs.Base.Schedules.{by-step}
+use Rattle.meaning.proofs.Base.Schedules.{replyOf, by-step}
 use Rattle.meaning.proofs.Invariant.{takesH, takesN, takesLock, holdsH, ownsHeaders, ownsP, Passes, takes, gives-up, Becomes, Puts, Guards, GuardsMap, GuardsHeader, GuardsContent, GuardsWear, Inv}
 use Rattle.meaning.proofs.Invariant.Keeping.{reads-map, everyLine, everywhere, standing, p-owned, Moves, moves-inv, word-kept, entry-kept, map-kept, header-kept, wear-kept, content-kept}
 use Rattle.meaning.proofs.Lines.{Fine}
@@ -286,8 +286,8 @@ abbrev pub left-by : (s : Store) (t : ℕ) → Going s t → Store
 left-by s t g = apply s t (g .becomes) (g .effect)
 
 -- what its call replies
-abbrev pub reply-of : (s : Store) (t : ℕ) → Going s t → Reply Store
-reply-of s t g = record { number = g .number; value = g .value; after = left-by s t g }
+abbrev pub reply-by : (s : Store) (t : ℕ) → Going s t → Reply Store
+reply-by s t g = replyOf (g .number) (g .value) (left-by s t g)
 
 module _ (s : Store) (t : ℕ) where
   pub told-going : t < s .threads → isIdle (s .thread t) ≡ false → (v : Verdict) → v ≡ verdict s t →
@@ -321,11 +321,11 @@ module _ (s : Store) (t : ℕ) where
       (λ b x y. told-going b x (verdict s t) refl y) c
 
   goes-reply : (v : Verdict) (n a : ℕ) (r : Thread) (e : Effect) → Goes v n a r e →
-      reply (λ s′. s′) s (told s t v) ≡ record { number = n; value = a; after = apply s t r e }
+      reply (λ s′. s′) s (told s t v) ≡ replyOf n a (apply s t r e)
   goes-reply v n a r e goes = refl
   goes-reply v n a r e ends = refl
 
-  pub going-reply : (g : Going s t) → callStore s (step t) ≡ reply-of s t g
+  pub going-reply : (g : Going s t) → callStore s (step t) ≡ reply-by s t g
   going-reply g =
       rw (lt-ltb t (s .threads) (g .below), g .busy)
       (goes-reply (verdict s t) (g .number) (g .value) (g .becomes) (g .effect) (g .told′))
@@ -390,9 +390,9 @@ either-order s I t u apart steps steps′ others =
     let others′ = sameTake-sym (s .thread t) (s .thread u) others in
     let u-after = still s I t (g .becomes) (g .effect) M (g .below) u apart others k in
     let t-after = still s I u (k .becomes) (k .effect) (going-moves s u I k) (k .below) t (λ e. apart (sym e)) others′ g in
-    let u-second : callStore (callStore s (step t) .after) (step u) ≡ reply-of (left-by s t g) u u-after =
+    let u-second : callStore (callStore s (step t) .after) (step u) ≡ reply-by (left-by s t g) u u-after =
     rw (going-reply s t g) (going-reply (left-by s t g) u u-after) in
-    let t-second : callStore (callStore s (step u) .after) (step t) ≡ reply-of (left-by s u k) t t-after =
+    let t-second : callStore (callStore s (step u) .after) (step t) ≡ reply-by (left-by s u k) t t-after =
     rw (going-reply s u k) (going-reply (left-by s u k) t t-after) in
     record {
       number = ap (λ (x : Reply Store). x .number) t-second ∙ sym (ap (λ (x : Reply Store). x .number) (going-reply s t g));

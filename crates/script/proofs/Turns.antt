@@ -16,7 +16,7 @@ use Rattle.store.specs.Area.{Bytes}
 use Rattle.store.specs.Calls.{formatArea}
 use Rattle.calls.proofs.Values.{packed-number, packed-value}
 use Rattle.script.specs.Output.{replied, unlessWent, formatNew}
-use Rattle.script.specs.Positions.{wordRange}
+use Rattle.script.specs.Positions.{taken}
 use Rattle.script.proofs.Formats.{format-value, format-refused, format-new}
 
 -- ---- the front of a buffer
@@ -29,10 +29,7 @@ bytes-take (suc n) (x ∷ l) h (suc i) = bytes-take n l (λ j. h (suc j)) i
 
 -- ---- a reply on the front of a buffer
 
--- number and value taken apart, with what the call left there and what stands behind it
-abbrev pub taken : ℕ → ℕ → List ℕ → Reply (List ℕ)
-taken both used buffer = record { number = both / wordRange; value = both % wordRange; after = take used buffer }
-
+-- with what the call left there and what stands behind it
 pub taken-reply :
     (both used : ℕ) (front rest : List ℕ) (r : Reply (List ℕ)) → both ≡ packed (r .number) (r .value) → r .value ≤ mostWord
     → front ≡ r .after → length front ≡ used → replied (taken both used (front ++ rest)) ≡ replied r

@@ -4,6 +4,7 @@ use mathlib.Core.List.{List}
 use Prim.Native.Nat.{ℕ, _+_, _-_, _/_, _%_, _≤_, _<_}
 use lib.ListN.{length, take, drop}
 use Rattle.meaning.specs.Limits.{mostWord}
+use Rattle.meaning.specs.Call.{Reply}
 use Rattle.store.specs.Layout.{largest}
 use Rattle.script.specs.declared.Field.{Field}
 use Rattle.script.specs.declared.Field.the-variants as fields
@@ -44,11 +45,14 @@ pub record Held (buffer : List ℕ) (used : ℕ) : Type 0 where
 abbrev pub wordRange : ℕ
 wordRange = mostWord + 1
 
--- what an answer on a buffer says: number and value are taken apart, and the store's area is the front of the buffer
+-- number and value taken apart, with the store's area, which is the front of the buffer
+abbrev pub taken : ℕ → ℕ → List ℕ → Reply (List ℕ)
+taken both used buffer = record { number = both / wordRange; value = both % wordRange; after = take used buffer }
+
+-- what an answer on a buffer says
 abbrev pub turned : List ℕ → Turn → Heard
 turned buffer turns.Stop = stopped
-turned buffer (turns.Reply both used) =
-    replied (record { number = both / wordRange; value = both % wordRange; after = take used buffer })
+turned buffer (turns.Reply both used) = replied (taken both used buffer)
 
 -- the area that is left stands inside a buffer of that length
 abbrev pub Left : ℕ → Turn → Type 0

@@ -12,7 +12,7 @@ use borrow.Author.Tests.{lt-ltb, le-ltb, ltb-true, ltb-false, eqb-true, eqb-fals
 use Rattle.meaning.specs.Table.{below}
 use Rattle.meaning.specs.Limits.{mostBlocks}
 use Rattle.meaning.specs.Store.{idle}
-use Rattle.store.specs.declared.Store.{Store as Working}
+use Rattle.store.specs.declared.Store.{Store as WorkingStore}
 use Rattle.store.specs.Layout.{tAt, nAt, pAt, dAt, lockAt, ownerAt, threadsAt, threadWords, mapAt, locksAt, blocksAt, blockWords, areaWords}
 use Rattle.store.specs.Area.{word, threadFrom, column, decode}
 use Rattle.store.specs.Live.{Live, table, Fills, view}
@@ -80,7 +80,7 @@ fills v from stride count room {into} z h m r =
     let e : length into ≡ room = rw z (length-replicate room 0) in
     record { reach = λ k l. omega (arith, v .fits, r k l); fit = omega arith; few = omega arith; zeroed = rw e z }
 
-pub record Loaded (a : List ℕ) (t n p : ℕ) (w : Working) : Type 0 where
+pub record Loaded (a : List ℕ) (t n p : ℕ) (w : WorkingStore) : Type 0 where
   pub sizeT : w .t ≡ word a tAt
   pub sizeN : w .n ≡ word a nAt
   pub sizeP : w .p ≡ word a pAt
@@ -139,7 +139,7 @@ threads-loaded at t k = by-size (ltb k t) refl
           h = column-out at threadsAt (threadWords * t) (threadWords * k + 6) (omega arith) i;
         }
 
-pub view-loaded : {a : List ℕ} {t n p : ℕ} {w : Working} → Live a t n p → Loaded a t n p w → view w ≡ decode a
+pub view-loaded : {a : List ℕ} {t n p : ℕ} {w : WorkingStore} → Live a t n p → Loaded a t n p w → view w ≡ decode a
 view-loaded {a} {t} v l =
     (λ i.
     record {

@@ -13,7 +13,7 @@ use Rattle.meaning.specs.Limits.{mostThreads, mostNumbers, mostBlocks, mostWord
 use Rattle.meaning.specs.Store.{Store}
 use Rattle.meaning.specs.declared.Effect.{Effect}
 use Rattle.meaning.specs.Step.{changed}
-use Rattle.store.specs.declared.Store.{Store as Working}
+use Rattle.store.specs.declared.Store.{Store as WorkingStore}
 use Rattle.store.specs.Layout.{tAt, nAt, pAt, threadWords, size}
 use Rattle.store.specs.Area.{word, threadFrom}
 
@@ -103,7 +103,7 @@ abbrev pub table : List ℕ → ℕ → ℕ
 table l k = getD l k 0
 
 -- the store that the working store's arrays stand for
-abbrev pub view : Working → Store
+abbrev pub view : WorkingStore → Store
 view w =
     record {
       threads = w .t;
@@ -122,7 +122,7 @@ view w =
     }
 
 -- "filled with zeros at full size, 512 blocks and 256 map entries"
-abbrev pub zeroFilled : Working
+abbrev pub zeroFilled : WorkingStore
 zeroFilled =
     record {
       t = 0;

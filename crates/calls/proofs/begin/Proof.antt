@@ -5,7 +5,7 @@ use borrow.Author.Tests.{not-true}
 use Rattle.meaning.specs.Numbers.{WENT, SHAPE, THREAD, BUSY, OPERATION, LOGICAL}
 use Rattle.meaning.specs.Call.{begin}
 use Rattle.machine.proofs.Inside.{nowhere}
-use Rattle.calls.proofs.Replies.{replied, tested, long-formed, Opened, opens, within-thread, call-shape, begin-thread, begin-busy, begin-operation, begin-logical, begin-went, stored-encoded}
+use Rattle.calls.proofs.Replies.{reply-meets, tested, long-formed, Opened, opens, within-thread, call-shape, begin-thread, begin-busy, begin-operation, begin-logical, begin-went, stored-encoded}
 use Rattle.calls.proofs.begin.Statement.{statement}
 use Rattle.calls.proofs.begin.Tie as tie
 
@@ -57,7 +57,7 @@ opened c =
 returns : tie.Need-returns
 returns c =
     let a = c .before .before .before .before .before .args in
-    replied SHAPE 0
+    reply-meets SHAPE 0
     (call-shape _ (begin (a .thread) (a .op) (a .n) (a .c)) (sym (c .before .before .well-formed .ensures) ∙ not-true _ (c .before .if1 .taken)))
     (c .pack .ensures) refl
 
@@ -70,20 +70,20 @@ returns-2 c =
     let tests = formed sizes in
     let a = known tests .before .args in
     let well = tested _ (tests .before .well-formed .ensures) (tests .if1 .left) in
-    replied THREAD 0 (begin-thread _ well (sizes .sizes .ensures .0) (c .before .if2 .taken) (a .op) (a .n) (a .c)) (c .pack2 .ensures) refl
+    reply-meets THREAD 0 (begin-thread _ well (sizes .sizes .ensures .0) (c .before .if2 .taken) (a .op) (a .n) (a .c)) (c .pack2 .ensures) refl
 
 returns-3 : tie.Need-returns-3
 returns-3 c =
     let r = c .before .before .before in
     let a = start (below r) .args in
-    replied BUSY 0 (begin-busy (opened (below r)) (r .thread-at .ensures) (a .op) (a .n) (a .c) (c .before .if3 .taken)) (c .pack3 .ensures) refl
+    reply-meets BUSY 0 (begin-busy (opened (below r)) (r .thread-at .ensures) (a .op) (a .n) (a .c) (c .before .if3 .taken)) (c .pack3 .ensures) refl
 
 returns-4 : tie.Need-returns-4
 returns-4 c =
     let idle = c .before .before in
     let r = read idle in
     let a = start (below r) .args in
-    replied OPERATION 0
+    reply-meets OPERATION 0
     (begin-operation (opened (below r)) (r .thread-at .ensures) (a .op) (a .n) (a .c) (idle .if3 .left) (c .before .if4 .taken))
     (c .pack4 .ensures) refl
 
@@ -92,7 +92,7 @@ returns-5 c =
     let op = c .before .before .before in
     let r = read (resting op) in
     let a = start (below r) .args in
-    replied LOGICAL 0
+    reply-meets LOGICAL 0
     (begin-logical (opened (below r)) (r .thread-at .ensures) (a .op) (a .n) (a .c) (resting op .if3 .left) (op .if4 .left) (c .before .if5 .taken))
     (c .pack5 .ensures) refl
 
@@ -108,7 +108,7 @@ returns-6 c =
     let op = named n in
     let r = read (resting op) in
     let a = start (below r) .args in
-    replied WENT 0
+    reply-meets WENT 0
     (begin-went (opened (below r)) (r .thread-at .ensures) (a .op) (a .n) (a .c) (resting op .if3 .left) (op .if4 .left) (n .if5 .left))
     (c .pack6 .ensures)
     (stored-encoded (rw (settled .before .nothing .ensures, settled .before .before .begun .ensures) at (settled .settle .ensures))

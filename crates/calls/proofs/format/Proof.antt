@@ -10,7 +10,7 @@ use Rattle.meaning.specs.Limits.{inLimits}
 use Rattle.store.specs.Layout.{tAt, nAt, pAt, dAt, size}
 use Rattle.store.specs.Live.{putWord}
 use Rattle.store.proofs.Sound.{limits-sizes}
-use Rattle.calls.proofs.Replies.{replied, format-limits, format-shape, format-went}
+use Rattle.calls.proofs.Replies.{reply-meets, format-limits, format-shape, format-went}
 use Rattle.calls.proofs.Fresh.{area-fresh}
 use Rattle.calls.proofs.format.Statement.{statement}
 use Rattle.calls.proofs.format.Tie as tie
@@ -53,7 +53,7 @@ limits c = sym (c .before .in-limits .ensures) ∙ not-false _ (c .if1 .left)
 returns : tie.Need-returns
 returns c =
     let a = c .before .before .before .before .args in
-    replied LIMITS 0
+    reply-meets LIMITS 0
     (format-limits (a .area .now) (a .t) (a .n) (a .p) (a .d) (sym (c .before .before .in-limits .ensures) ∙ not-true _ (c .before .if1 .taken)))
     (c .pack .ensures) refl
 
@@ -67,7 +67,7 @@ returns-2 : tie.Need-returns-2
 returns-2 c =
     let sized = c .before .before in
     let a = start (limited sized) .args in
-    replied SHAPE 0
+    reply-meets SHAPE 0
     (format-shape (a .area .now) (a .t) (a .n) (a .p) (a .d) (limits (limited sized)) (λ e. c .before .if2 .taken (e ∙ sym (sized .size-of .ensures))))
     (c .pack2 .ensures) refl
 
@@ -82,7 +82,7 @@ returns-3 c =
     let a = start (limited sized) .args in
     let l = limits (limited sized) in
     let fits : length (a .area .now) ≡ size (a .t) (a .n) (a .p) = omega (arith, fitted zeros .if2 .left, sized .size-of .ensures) in
-    replied WENT 0 (format-went (a .area .now) (a .t) (a .n) (a .p) (a .d) l fits) (c .pack3 .ensures)
+    reply-meets WENT 0 (format-went (a .area .now) (a .t) (a .n) (a .p) (a .d) l fits) (c .pack3 .ensures)
     (d-put .put-word4 .ensures
     ∙ ap (λ x. putWord x dAt (a .d))
     (p-put .put-word3 .ensures

@@ -5,7 +5,7 @@ use borrow.Author.Tests.{not-true}
 use Rattle.meaning.specs.Numbers.{WENT, FINISHED, BLOCKED, SHAPE, THREAD, IDLE, FAULT}
 use Rattle.meaning.specs.Call.{step}
 use Rattle.store.specs.Area.{Bytes}
-use Rattle.calls.proofs.Replies.{replied, tested, long-formed, Opened, opens, within-thread, call-shape, step-thread, step-idle, judge-asks, Judged, judges, step-told, settle-go, settle-done, stored-encoded}
+use Rattle.calls.proofs.Replies.{reply-meets, tested, long-formed, Opened, opens, within-thread, call-shape, step-thread, step-idle, judge-asks, Judged, judges, step-told, settle-go, settle-done, stored-encoded}
 use Rattle.calls.proofs.step.Statement.{statement}
 use Rattle.calls.proofs.step.Tie as tie
 
@@ -68,7 +68,7 @@ bytes c i = known (formed (sized (below-judged c))) .slice-known .given i .fits
 
 returns : tie.Need-returns
 returns c =
-    replied SHAPE 0 (call-shape _ (step _) (sym (c .before .before .well-formed .ensures) ∙ not-true _ (c .before .if1 .taken)))
+    reply-meets SHAPE 0 (call-shape _ (step _) (sym (c .before .before .well-formed .ensures) ∙ not-true _ (c .before .if1 .taken)))
     (c .pack .ensures) refl
 
 sizes-requires : tie.Need-sizes-requires
@@ -79,12 +79,12 @@ returns-2 c =
     let sizes = c .before .before .before in
     let tests = formed sizes in
     let well = tested _ (tests .before .well-formed .ensures) (tests .if1 .left) in
-    replied THREAD 0 (step-thread _ well (sizes .sizes .ensures .0) (c .before .if2 .taken)) (c .pack2 .ensures) refl
+    reply-meets THREAD 0 (step-thread _ well (sizes .sizes .ensures .0) (c .before .if2 .taken)) (c .pack2 .ensures) refl
 
 returns-3 : tie.Need-returns-3
 returns-3 c =
     let r = c .before .before .before in
-    replied IDLE 0 (step-idle (opened (below r)) (r .thread-at .ensures) (c .before .if3 .taken)) (c .pack3 .ensures) refl
+    reply-meets IDLE 0 (step-idle (opened (below r)) (r .thread-at .ensures) (c .before .if3 .taken)) (c .pack3 .ensures) refl
 
 judge-requires : tie.Need-judge-requires
 judge-requires c κs =
@@ -92,10 +92,10 @@ judge-requires c κs =
     judge-asks (opened (below r)) (r .thread-at .ensures) (c .before .if3 .left)
 
 returns-4 : tie.Need-returns-4
-returns-4 c = replied BLOCKED 0 (step-told (judged (c .before .before .before)) (c .before .enum-told .given .1)) (c .pack4 .ensures) refl
+returns-4 c = reply-meets BLOCKED 0 (step-told (judged (c .before .before .before)) (c .before .enum-told .given .1)) (c .pack4 .ensures) refl
 
 returns-5 : tie.Need-returns-5
-returns-5 c = replied FAULT 0 (step-told (judged (c .before .before .before)) (c .before .enum-told2 .given .1)) (c .pack5 .ensures) refl
+returns-5 c = reply-meets FAULT 0 (step-told (judged (c .before .before .before)) (c .before .enum-told2 .given .1)) (c .pack5 .ensures) refl
 
 settle-requires : tie.Need-settle-requires
 settle-requires c κs = settle-go (judged (goes c .before .before)) (goes c .next .given .1)
@@ -107,14 +107,14 @@ returns-6 : tie.Need-returns-6
 returns-6 c =
     let settled = c .before .before .before in
     let go = goes (settled .before) in
-    replied WENT 0 (step-told (judged (go .before .before)) (go .next .given .1)) (c .pack6 .ensures)
+    reply-meets WENT 0 (step-told (judged (go .before .before)) (go .next .given .1)) (c .pack6 .ensures)
     (stored-encoded (settled .settle .ensures) (bytes (go .before .before)))
 
 returns-7 : tie.Need-returns-7
 returns-7 c =
     let settled = c .before .before .before in
     let end = done (settled .before) in
-    replied FINISHED (end .value .given .0 .0) (step-told (judged (end .before .before)) (end .value .given .1)) (c .pack7 .ensures)
+    reply-meets FINISHED (end .value .given .0 .0) (step-told (judged (end .before .before)) (end .value .given .1)) (c .pack7 .ensures)
     (stored-encoded (rw (settled .before .idle .ensures) at (settled .settle2 .ensures)) (bytes (end .before .before)))
 
 pub step-spec : {M : Type 1} → statement M

@@ -4,7 +4,7 @@ use native.Mathlib.Omega.{arith}
 use borrow.Author.Needs.{needs}
 use Rattle.meaning.specs.Step.{setQ}
 use Rattle.store.specs.Live.{table}
-use Rattle.machine.proofs.Search.{to-below, from-below, chosen-found}
+use Rattle.machine.proofs.Search.{to-block-below, least-worn-below, chosen-found}
 use Rattle.machine.proofs.choose.Statement.{statement}
 use Rattle.machine.proofs.choose.Tie as tie
 
@@ -18,8 +18,8 @@ from-block-requires c κs =
     let start = w .before .before in
     let header = table (start .args .header .now) in
     let wear = table (start .args .wear .now) in (
-      rw (c .before .to .given .1) at (to-below header wear (start .args .blocks) (w .before .to-block .ensures) (start .pre .0)),
-      from-below header wear (start .args .blocks) (w .least-worn .ensures) (start .pre .0),
+      rw (c .before .to .given .1) at (to-block-below header wear (start .args .blocks) (w .before .to-block .ensures) (start .pre .0)),
+      least-worn-below header wear (start .args .blocks) (w .least-worn .ensures) (start .pre .0),
     )
 
 next-requires : tie.Need-next-requires

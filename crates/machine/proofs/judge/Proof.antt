@@ -12,7 +12,7 @@ use Rattle.meaning.specs.Limits.{mostThreads, mostNumbers, mostBlocks}
 use Rattle.store.specs.Layout.{threadWords, blockWords}
 use Rattle.store.specs.Area.{word, column}
 use Rattle.store.specs.Live.{Fills, view, zeroFilled}
-use Rattle.store.specs.declared.Store.{Store as Working}
+use Rattle.store.specs.declared.Store.{Store as WorkingStore}
 use Rattle.store.proofs.Filling.{fills, Loaded, view-loaded}
 use Rattle.machine.proofs.Registers.{near-sees, perform-same}
 use Rattle.machine.proofs.judge.Statement.{statement}
@@ -129,7 +129,7 @@ returns c =
     let at = begins w in
     let a = start w .args in
     let area = a .area .now in
-    let working : Working =
+    let working : WorkingStore =
     record {
       t = w .before .before .before .before .before .word-at .result;
       n = w .before .before .before .before .word-at2 .result;

@@ -21,6 +21,10 @@ use Rattle.meaning.proofs.Base.Words.{either-way, clash}
 
 -- ---- a call
 
+-- a reply by its number and value and what is left
+abbrev pub replyOf : {S : Type 0} → ℕ → ℕ → S → Reply S
+replyOf number value s = record { number = number; value = value; after = s }
+
 -- What is so of a refusal, and of the begin where it goes, is so of what a begin comes to.
 pub by-begin : (A : Outcome → Type 0) (s : Store) (t op n c : ℕ) →
     ((number : ℕ) → leb number FINISHED ≡ false → A (refused number)) →

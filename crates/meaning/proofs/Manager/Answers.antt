@@ -30,8 +30,8 @@ use Rattle.meaning.proofs.Lines.{GoesOn}
 use Rattle.meaning.proofs.Lines.EveryLine.{idle-is}
 use Rattle.meaning.proofs.Progress.{inv-fresh, inv-call, inv-run}
 use Rattle.meaning.proofs.Manager.View.{status, asked, leaves, future, owes, answered, due, owing}
-use Rattle.meaning.proofs.Progress.Called.{CallCases, stays, opens, goes, ends, call-cases, replied}
-use Rattle.meaning.proofs.Base.Schedules.{placing-append, finishing-append}
+use Rattle.meaning.proofs.Progress.Called.{CallCases, stays, opens, goes, ends, call-cases}
+use Rattle.meaning.proofs.Base.Schedules.{replyOf, placing-append, finishing-append}
 use Rattle.meaning.proofs.Manager.Laws.{operation-asked, level-obeys, obeyAll-append, managed-passes}
 use Rattle.meaning.proofs.Manager.Step.{future-free, future-held, future-step, takes-status, owing-others}
 
@@ -59,7 +59,7 @@ pub record Serves (s : Store) (m : Manager) (e : Entry) : Type 0 where
       (owing (callStore s e .after) u ++ managed (obeyAll m (placing callStore (λ s. s) s e [])) u l)
 
 module _ (s : Store) (I : Inv s) (m : Manager) (M : Matches s m) where
-  refused : (e : Entry) (number : ℕ) → eqb number WENT ≡ false → eqb number FINISHED ≡ false → callStore s e ≡ replied number 0 s →
+  refused : (e : Entry) (number : ℕ) → eqb number WENT ≡ false → eqb number FINISHED ≡ false → callStore s e ≡ replyOf number 0 s →
       Serves s m e
   refused (begin t op n c) number went finished x = record { matches = rw x M; answers = λ u l. rw x }
   refused (step t) number went finished x = record { matches = rw (x, went) M; answers = λ u l. rw (x, went, finished) }

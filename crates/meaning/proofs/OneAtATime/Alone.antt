@@ -25,6 +25,7 @@ use Rattle.meaning.specs.Step.{block, perform, verdict, become, put, app
 use Rattle.meaning.specs.Call.{Reply, step, callStore, isIdle}
 use Rattle.meaning.specs.Schedule.{Answered, placed, run, finishedBy, steps, longest}
 use Rattle.meaning.proofs.Base.Words.{same, either-way, by-held, held-is, none-held, upd-same, upd-other}
+use Rattle.meaning.proofs.Base.Schedules.{replyOf}
 use Rattle.meaning.proofs.Invariant.{holdsH, holdsLock, ownsHeaders, ownsBlock, takesH, takesLock, Passes, takes, gives-up, Becomes, Puts, Guards, Inv}
 use Rattle.meaning.proofs.Invariant.Keeping.{everywhere}
 use Rattle.meaning.proofs.Lines.EveryLine.{idle-is}
@@ -159,10 +160,10 @@ module _ (s : Store) (I : Inv s) (t : ℕ) (g : Going s t) where
       }
 
   pub step-alone : callStore (alone t s) (step t) ≡
-      record { number = g .number; value = g .value; after = alone t (left-by s t g) }
+      replyOf (g .number) (g .value) (alone t (left-by s t g))
   step-alone =
       going-reply (alone t s) t going-alone
-      ∙ ap (λ (x : Store). record { number = g .number; value = g .value; after = x })
+      ∙ ap (replyOf (g .number) (g .value))
       (apply-alone s t (s .thread t) (g .becomes) (g .effect) (going-moves s t I g .guards))
 
   -- the answer is the same

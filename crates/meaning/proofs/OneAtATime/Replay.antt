@@ -25,6 +25,7 @@ use Rattle.meaning.specs.Step.{perform, become}
 use Rattle.meaning.specs.Call.{Reply, Entry, begin, step, callStore, isIdle, begun, storedN, storedC}
 use Rattle.meaning.specs.Schedule.{takesLast, run, finishedBy, steps}
 use Rattle.meaning.proofs.Base.Words.{same, and-left, and-right, or-way, within-true, by-held, naming-not-free, named-naming}
+use Rattle.meaning.proofs.Base.Schedules.{replyOf}
 use Rattle.meaning.proofs.Invariant.{Chosen, Facts, holdsH, holdsLock, ownsHeaders, ownsBlock, Inv}
 use Rattle.meaning.proofs.Lines.{at, From, _▸_, from-at}
 use Rattle.meaning.proofs.Lines.EveryLine.{open-line}
@@ -33,9 +34,6 @@ use Rattle.meaning.proofs.OneAtATime.Alone.{alone, with-threads, solo, 
 
 -- ---- schedules that go, and finish nothing
 
-abbrev went-to : Store → Reply Store
-went-to x = record { number = WENT; value = 0; after = x }
-
 pub record Plays (x : Store) (w : List Entry) (y : Store) : Type 0 where
   pub leaves : run callStore x w ≡ y
   pub silent : (u : ℕ) → finishedBy callStore (λ s. s) x u w ≡ []
@@ -43,7 +41,7 @@ pub record Plays (x : Store) (w : List Entry) (y : Store) : Type 0 where
 plays-none : (x : Store) → Plays x [] x
 plays-none x = record { leaves = refl; silent = λ u. refl }
 
-plays-next : (x x′ y : Store) (e : Entry) (w : List Entry) → callStore x e ≡ went-to x′ → Plays x′ w y → Plays x (e ∷ w) y
+plays-next : (x x′ y : Store) (e : Entry) (w : List Entry) → callStore x e ≡ replyOf WENT 0 x′ → Plays x′ w y → Plays x (e ∷ w) y
 plays-next x x′ y (begin t op n c) w is P =
     let to : callStore x (begin t op n c) .after ≡ x′ = ap (λ (z : Reply Store). z .after) is in
     record {
@@ -67,15 +65,15 @@ onHeld a b =
 
 module _ (s : Store) (t : ℕ) (below : t < s .threads) where
   solo-begin : (op n c : ℕ) → within WRITE LEVEL op ≡ true → (eqb op LEVEL || ltb n (s .numbers)) ≡ true →
-      callStore (cleared s) (begin t op n c) ≡ went-to (solo s t (begun op n c) none none)
+      callStore (cleared s) (begin t op n c) ≡ replyOf WENT 0 (solo s t (begun op n c) none none)
   solo-begin op n c known logical = rw (lt-ltb t (s .threads) below, known, logical)
 
   solo-step : (r r′ : Thread) (l o : ℕ) (a b : Word) → isIdle r ≡ false →
       perform (actAt (r .op) (r .line)) (solo s t r l o) t r ≡ Go r′ (onHeld a b) →
-      callStore (solo s t r l o) (step t) ≡ went-to (solo s t r′ (become a l) (become b o))
+      callStore (solo s t r l o) (step t) ≡ replyOf WENT 0 (solo s t r′ (become a l) (become b o))
   solo-step r r′ l o a b busy is =
       rw (lt-ltb t (s .threads) below, same t, busy, is)
-      (ap (λ (f : ℕ → Thread). went-to (with-threads s f (become a l) (become b o))) (threads-alone t (λ _. r) (λ _. r′) r′ refl))
+      (ap (λ (f : ℕ → Thread). replyOf WENT 0 (with-threads s f (become a l) (become b o))) (threads-alone t (λ _. r) (λ _. r′) r′ refl))
 
 -- ---- up to the last lock
 

@@ -12,25 +12,22 @@ use Rattle.meaning.specs.declared.Verdict.the-variants.{Blocked, Fault, 
 use Rattle.meaning.specs.Numbers.{WENT, FINISHED, BLOCKED}
 use Rattle.meaning.specs.Store.{Store, idle}
 use Rattle.meaning.specs.Step.{nothing, verdict, apply}
-use Rattle.meaning.specs.Call.{Reply, Entry, begin, step, callStore, reply, told, isIdle, begun}
-use Rattle.meaning.proofs.Base.Schedules.{by-begin, by-step, refused-not}
+use Rattle.meaning.specs.Call.{Entry, begin, step, callStore, reply, told, isIdle, begun}
+use Rattle.meaning.proofs.Base.Schedules.{replyOf, by-begin, by-step, refused-not}
 use Rattle.meaning.proofs.Invariant.{Inv}
 use Rattle.meaning.proofs.Invariant.Keeping.{Moves}
 use Rattle.meaning.proofs.Lines.{Fine, GoesOn, Ends}
 use Rattle.meaning.proofs.Lines.EveryLine.{fine, begins}
 
-abbrev pub replied : ℕ → ℕ → Store → Reply Store
-replied number value s = record { number = number; value = value; after = s }
-
 pub data CallCases (s : Store) : Entry → Type 0 where
   stays : {e : Entry} (number : ℕ) → eqb number WENT ≡ false → eqb number FINISHED ≡ false →
-      callStore s e ≡ replied number 0 s → CallCases s e
+      callStore s e ≡ replyOf number 0 s → CallCases s e
   opens : (t op n c : ℕ) → t < s .threads → isIdle (s .thread t) ≡ true → Moves s t (s .thread t) (begun op n c) nothing →
-      callStore s (begin t op n c) ≡ replied WENT 0 (apply s t (begun op n c) nothing) → CallCases s (begin t op n c)
+      callStore s (begin t op n c) ≡ replyOf WENT 0 (apply s t (begun op n c) nothing) → CallCases s (begin t op n c)
   goes : (t : ℕ) (r′ : Thread) (e : Effect) → t < s .threads → isIdle (s .thread t) ≡ false → GoesOn s t (s .thread t) r′ e →
-      callStore s (step t) ≡ replied WENT 0 (apply s t r′ e) → CallCases s (step t)
+      callStore s (step t) ≡ replyOf WENT 0 (apply s t r′ e) → CallCases s (step t)
   ends : (t value : ℕ) (e : Effect) → t < s .threads → isIdle (s .thread t) ≡ false → Ends s t (s .thread t) value e →
-      callStore s (step t) ≡ replied FINISHED value (apply s t idle e) → CallCases s (step t)
+      callStore s (step t) ≡ replyOf FINISHED value (apply s t idle e) → CallCases s (step t)
 
 module _ (s : Store) (I : Inv s) where
   steps : (t : ℕ) → t < s .threads → isIdle (s .thread t) ≡ false → (v : Verdict) → Fine s t (s .thread t) v →

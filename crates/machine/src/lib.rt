@@ -322,7 +322,7 @@ pub fn judge(area: &[u8], z: Sizes, t: u32, r: Thread) -> Verdict
     requires { ⌜ Live (now area) (z .t) (z .n) (z .p) × Steady t r × AtLine r ⌝ }
     ensures { λ v. ⌜ v ≡ perform (actAt (r .op) (r .line)) (decode (now (area .entry))) t r ⌝ }
 {
-    // The act is looked up first, which measured some 10 ns faster than after the fill: its table is made on the stack.
+    // The act is looked up first, which measured some 5 ns faster than after the fill: its table is made on the stack.
     let act = acts::act_at(r.op, r.line);
     let map = store::map_at(z.t);
     let locks = store::locks_at(z.t, z.n);

@@ -1,16 +1,15 @@
 -- Either order, over stores: two threads that can both step, and are not about to take the same lock, may step in either order. Each
 -- answers the same, and the store is the same at the end.
 -- What a step changes, its thread has what guards it (`Guards`), so two steps change no common word; what a step looks at, its thread
--- has what guards it too (`looks`, tested at each line), so it comes to the same after the other one.
+-- has what guards it too (tested at each line), so it comes to the same after the other one.
 -- Assumes nothing.
 use mathlib.Core.Path.{_≡_, refl, sym, ap, _∙_, subst, fun-ext}
 use mathlib.Core.Bool.{Bool, true, false, _&&_, _||_, or-true}
+use mathlib.Core.List.{List, [], _∷_}
 use Prim.Native.Nat.{ℕ, _<_}
 use native.Mathlib.Omega.{arith}
 use lib.Dec.{eqb, leb}
 use borrow.Author.Tests.{eqb-true, eq-eqb, ne-eqb, lt-ltb}
-use Rattle.meaning.specs.declared.Act.{Act}
-use Rattle.meaning.specs.declared.Act.the-variants.{Nothing, TakeH, ReleaseH, FinishH, TakeN, ReleaseN, FinishN, OwnHeaders, LetGoHeaders, Own, LetGo, GoIfMapped, GoIfUnmapped, EmptyIfUnmapped, GoIfFree, PickFree, Choose, ReadHeader, WriteHeaderN, WriteHeaderH, FreeHeader, EmptyContent, ReadContent, WriteContent, MapTo, Unmap}
 use Rattle.meaning.specs.declared.Thread.{Thread}
 use Rattle.meaning.specs.declared.Word.{Word}
 use Rattle.meaning.specs.declared.Word.the-variants.{Stay, Become}
@@ -24,12 +23,14 @@ use Rattle.meaning.specs.Numbers.{WENT, FINISHED}
 use Rattle.meaning.specs.Store.{Store, idle}
 use Rattle.meaning.specs.Holding.{free, by, heldBy}
 use Rattle.meaning.specs.Programs.{actAt}
-use Rattle.meaning.specs.Step.{block, setC, nothing, next, need, touches, perform, verdict, become, put, apply}
+use Rattle.meaning.specs.Step.{perform, verdict, become, put, apply}
+use Rattle.meaning.specs.Needs.{Asks, takes-H, takes-N, needs, no-line, asks, waits}
 use Rattle.meaning.specs.Call.{Reply, step, callStore, told, reply, isIdle}
 use Rattle.meaning.proofs.Base.Words.{either-way, by-held, clash, and-left, and-right, or-way, by-other, held-once, held-not-free, upd-same, upd-other, upd-each}
 use Rattle.meaning.proofs.Base.Schedules.{replyOf, by-step}
 use Rattle.meaning.proofs.Invariant.{takesH, takesN, takesLock, holdsH, ownsHeaders, ownsP, Passes, takes, gives-up, Becomes, Puts, Guards, GuardsMap, GuardsHeader, GuardsContent, GuardsWear, Inv}
 use Rattle.meaning.proofs.Invariant.Keeping.{reads-map, everyLine, everywhere, standing, p-owned, Moves, moves-inv, word-kept, entry-kept, map-kept, header-kept, wear-kept, content-kept}
+use Rattle.meaning.proofs.Acts.{Sight, map-of-n, headers, all-wear, content-of-p, shape, Ready, lands, was-ready, unfaulted, un-not, Same, SameSights, same-deed}
 use Rattle.meaning.proofs.Lines.{Fine}
 use Rattle.meaning.proofs.Lines.EveryLine.{fine}
 use Rattle.meaning.proofs.Progress.{no-fault, CanStep}
@@ -49,45 +50,30 @@ pub record Swaps (s : Store) (t u : ℕ) : Type 0 where
 
 -- ---- what a step looks at
 
--- the thread has what guards the words that its act looks at, and is about to take what the act takes
-abbrev looks : Act → ℕ → ℕ → Bool
-looks Nothing op line = true
-looks TakeH op line = takesH (standing op line)
-looks ReleaseH op line = true
-looks (FinishH a) op line = true
-looks TakeN op line = takesN (standing op line)
-looks ReleaseN op line = true
-looks (FinishN a) op line = true
-looks OwnHeaders op line = true
-looks LetGoHeaders op line = true
-looks (Own b) op line = true
-looks (LetGo b) op line = true
-looks (GoIfMapped l) op line = reads-map (standing op line)
-looks (GoIfUnmapped l) op line = reads-map (standing op line)
-looks (EmptyIfUnmapped l) op line = reads-map (standing op line)
-looks (GoIfFree l) op line = true
-looks PickFree op line = ownsHeaders (standing op line)
-looks Choose op line = ownsHeaders (standing op line) && holdsH (standing op line)
-looks ReadHeader op line = ownsHeaders (standing op line)
-looks WriteHeaderN op line = true
-looks WriteHeaderH op line = true
-looks FreeHeader op line = holdsH (standing op line)
-looks EmptyContent op line = true
-looks ReadContent op line = ownsP (standing op line)
-looks (WriteContent b) op line = true
-looks (MapTo b) op line = true
-looks Unmap op line = true
+-- the flag of a thread that has what guards it
+abbrev guarded : Thread → Sight → Bool
+guarded r map-of-n = reads-map r
+guarded r headers = ownsHeaders r
+guarded r all-wear = holdsH r
+guarded r content-of-p = ownsP r
 
-looks-everywhere : everyLine (λ op line. looks (actAt op line) op line) ≡ true
+abbrev allGuarded : Thread → List Sight → Bool
+allGuarded r [] = true
+allGuarded r (x ∷ l) = guarded r x && allGuarded r l
+
+-- the flag of a thread that takes a lock
+abbrev taking : Thread → Asks → Bool
+taking r takes-H = takesH r
+taking r takes-N = takesN r
+taking r (needs l) = true
+taking r no-line = true
+
+-- at each line, the thread has what guards the words that its act looks at, and is about to take the lock that the act takes
+looks-everywhere : everyLine (λ op line. allGuarded (standing op line) (shape (actAt op line) .looks)) ≡ true
 looks-everywhere = refl
 
--- a line whose need is met at both stores does at both what it does where the need is met
-need-alike : (b b′ : Bool) {v v′ : Verdict} → (need b v ≡ Fault → ⊥) → (need b′ v′ ≡ Fault → ⊥) → v′ ≡ v →
-    need b′ v′ ≡ need b v
-need-alike true true x y e = e
-need-alike true false x y e = absurd (y refl)
-need-alike false true x y e = absurd (x refl)
-need-alike false false x y e = refl
+takes-everywhere : everyLine (λ op line. taking (standing op line) (asks (actAt op line))) ≡ true
+takes-everywhere = refl
 
 -- a free lock that t is not about to take stays free
 free-kept : (about : Type 0) (t : ℕ) (c : Word) (w : ℕ) → Becomes c (Passes about t w) → (about → ⊥) → free w ≡ true →
@@ -141,58 +127,50 @@ module _ (s : Store) (I : Inv s) (t : ℕ) (r′ : Thread) (e : Effect) (M : Mov
       entry-free-kept (λ k. takesLock (s .thread t) k ≡ true) t (e .locks) (s .locks) (M .guards .locks) (s .thread u .n)
       (λ z. clash (rw (l, z) (or-true (takesH (s .thread t) && takesH (s .thread u)))) others)
 
-  -- so u's act comes to the same: b says that it didn't wait, x and y that it faulted neither before nor after
-  abbrev before : Act → Verdict
-  before a = perform a s u (s .thread u)
+  -- so what its act looks at is the same, and what it takes still free
+  sight-alike : (x : Sight) → guarded (standing (s .thread u .op) (s .thread u .line)) x ≡ true →
+      Same s (apply s t r′ e) (s .thread u) x
+  sight-alike map-of-n = map-alike
+  sight-alike headers = header-alike
+  sight-alike all-wear = wear-alike
+  sight-alike content-of-p = content-alike
 
-  abbrev after : Act → Verdict
-  after a = perform a (apply s t r′ e) u (s .thread u)
+  sights-alike : (l : List Sight) → allGuarded (standing (s .thread u .op) (s .thread u .line)) l ≡ true →
+      SameSights s (apply s t r′ e) (s .thread u) l
+  sights-alike [] g = tt
+  sights-alike (x ∷ l) g = (
+    sight-alike x (and-left (guarded (standing (s .thread u .op) (s .thread u .line)) x) _ g),
+    sights-alike l (and-right (guarded (standing (s .thread u .op) (s .thread u .line)) x) _ g),
+  )
 
-  perform-alike : (a : Act) → looks a (s .thread u .op) (s .thread u .line) ≡ true → (before a ≡ Blocked → ⊥) →
-      (before a ≡ Fault → ⊥) → (after a ≡ Fault → ⊥) → after a ≡ before a
-  perform-alike Nothing l b x y = refl
-  perform-alike TakeH l b x y = either-way (free (s .lock)) (λ f. rw (f, lock-free l f)) (λ f. absurd (b (rw f)))
-  perform-alike ReleaseH l b x y = rw lock-alike
-  perform-alike (FinishH a) l b x y = rw lock-alike
-  perform-alike TakeN l b x y =
-      either-way (free (s .locks (s .thread u .n))) (λ f. rw (f, locks-free l f)) (λ f. absurd (b (rw f)))
-  perform-alike ReleaseN l b x y = rw (locks-alike (s .thread u .n))
-  perform-alike (FinishN a) l b x y = rw (locks-alike (s .thread u .n))
-  perform-alike OwnHeaders l b x y = need-alike (free (s .owner)) (free (become (e .owner) (s .owner))) x y refl
-  perform-alike LetGoHeaders l b x y = rw owner-alike
-  perform-alike (Own c) l b x y =
-      need-alike (free (s .own (block c (s .thread u)))) (free (put (e .own) (s .own) (block c (s .thread u)))) x y refl
-  perform-alike (LetGo c) l b x y = rw (own-alike (block c (s .thread u)))
-  perform-alike (GoIfMapped k) l b x y = rw (map-alike l)
-  perform-alike (GoIfUnmapped k) l b x y = rw (map-alike l)
-  perform-alike (EmptyIfUnmapped k) l b x y = rw (map-alike l)
-  perform-alike (GoIfFree k) l b x y = refl
-  perform-alike PickFree l b x y = rw (owner-alike, header-alike l)
-  perform-alike Choose l b x y =
-      let wear = wear-alike (and-right (ownsHeaders (s .thread u)) _ l) in
-      rw (owner-alike, header-alike (and-left (ownsHeaders (s .thread u)) _ l), wear)
-  perform-alike ReadHeader l b x y = rw (owner-alike, header-alike l)
-  perform-alike WriteHeaderN l b x y = rw (owner-alike, own-alike (s .thread u .p))
-  perform-alike WriteHeaderH l b x y = rw (owner-alike, own-alike (s .thread u .q))
-  perform-alike FreeHeader l b x y = rw (owner-alike, own-alike (s .thread u .p), wear-alike l)
-  perform-alike EmptyContent l b x y =
-      need-alike (touches s u (s .thread u .p)) (touches (apply s t r′ e) u (s .thread u .p)) x y refl
-  perform-alike ReadContent l b x y =
-      need-alike (touches s u (s .thread u .p)) (touches (apply s t r′ e) u (s .thread u .p)) x y
-      (ap (λ (c : ℕ). next (setC c (s .thread u)) nothing) (content-alike l))
-  perform-alike (WriteContent c) l b x y =
-      need-alike (touches s u (block c (s .thread u))) (touches (apply s t r′ e) u (block c (s .thread u))) x y refl
-  perform-alike (MapTo c) l b x y = refl
-  perform-alike Unmap l b x y = refl
+  still-unblocked : (a : Asks) → taking (standing (s .thread u .op) (s .thread u .line)) a ≡ true → waits s (s .thread u) a ≡ false →
+      waits (apply s t r′ e) (s .thread u) a ≡ false
+  still-unblocked takes-H g w = rw (lock-free g (un-not (free (s .lock)) w))
+  still-unblocked takes-N g w = rw (locks-free g (un-not (free (s .locks (s .thread u .n))) w))
+  still-unblocked (needs l) g w = w
+  still-unblocked no-line g w = w
 
+  -- and u's step comes to the same
   pub verdict-alike : t < s .threads → u < s .threads → isIdle (s .thread u) ≡ false → (verdict s u ≡ Blocked → ⊥) →
       verdict (apply s t r′ e) u ≡ verdict s u
   verdict-alike below u-below busy goes =
       let other : eqb t u ≡ false = ne-eqb t u apart in
-      rw other (perform-alike (actAt (s .thread u .op) (s .thread u .line))
-      (everywhere (λ op line. looks (actAt op line) op line) looks-everywhere (s .thread u) (I .stands u)) goes
-      (no-fault s I u u-below busy)
-      (λ f. no-fault (apply s t r′ e) (moves-inv s I t r′ e M below) u u-below (rw other busy) (rw other f)))
+      let r = s .thread u in
+      let a = actAt (r .op) (r .line) in
+      let after = apply s t r′ e in
+      let ready = was-ready a s u r (perform a s u r) (lands a s u r) goes (no-fault s I u u-below busy) in
+      let still : Ready after u r a = record {
+        met =
+            unfaulted a after u r (perform a after u r) (lands a after u r)
+            (λ f. no-fault after (moves-inv s I t r′ e M below) u u-below (rw other busy) (rw other f));
+        unblocked =
+            still-unblocked (asks a) (everywhere (λ op line. taking (standing op line) (asks (actAt op line))) takes-everywhere r (I .stands u))
+            (ready .unblocked);
+      } in
+      rw other (same-deed s after u r refl refl a
+      (sights-alike (shape a .looks)
+      (everywhere (λ op line. allGuarded (standing op line) (shape (actAt op line) .looks)) looks-everywhere r (I .stands u)))
+      ready still)
 
 -- ---- two threads' effects change no common word
 

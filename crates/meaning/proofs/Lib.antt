@@ -9,6 +9,7 @@
 --  * OneAtATime: demand 3, second half.
 pub mod Base
 pub mod Invariant
+pub mod Acts
 pub mod Lines
 pub mod Progress
 pub mod EitherOrder

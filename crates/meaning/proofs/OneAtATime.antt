@@ -9,7 +9,6 @@
 --  * EachOnce: each begun operation stands in the order at most once, and each finished one exactly once.
 --  * Samples: two schedules, computed.
 -- Assumes nothing.
-pub mod Shapes
 pub mod Places
 pub mod Settles
 pub mod Alone

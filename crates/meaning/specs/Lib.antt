@@ -7,6 +7,7 @@ pub mod Holding
 pub mod Programs
 pub mod Choosing
 pub mod Step
+pub mod Needs
 pub mod Call
 pub mod Manager
 pub mod Schedule

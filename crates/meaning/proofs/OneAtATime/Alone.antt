@@ -3,13 +3,12 @@
 -- Assumes nothing.
 use mathlib.Core.Path.{_≡_, refl, sym, ap, _∙_, subst, fun-ext}
 use mathlib.Core.Bool.{Bool, true, false, cond}
-use mathlib.Core.List.{List, []}
+use mathlib.Core.List.{List, [], _∷_}
 use Prim.Native.Nat.{ℕ, zero, suc, _+_, _<_}
 use native.Mathlib.Omega.{arith}
 use lib.Dec.{eqb, ltb, leb}
 use borrow.Author.Tests.{eqb-true, eqb-false, leb-true}
 use Rattle.meaning.specs.declared.Act.{Act}
-use Rattle.meaning.specs.declared.Act.the-variants.{Nothing, TakeH, ReleaseH, FinishH, TakeN, ReleaseN, FinishN, OwnHeaders, LetGoHeaders, Own, LetGo, GoIfMapped, GoIfUnmapped, EmptyIfUnmapped, GoIfFree, PickFree, Choose, ReadHeader, WriteHeaderN, WriteHeaderH, FreeHeader, EmptyContent, ReadContent, WriteContent, MapTo, Unmap}
 use Rattle.meaning.specs.declared.Thread.{Thread}
 use Rattle.meaning.specs.declared.Word.{Word}
 use Rattle.meaning.specs.declared.Word.the-variants.{Stay, Become}
@@ -22,12 +21,14 @@ use Rattle.meaning.specs.Store.{Store, idle}
 use Rattle.meaning.specs.Holding.{none, free, by, heldBy}
 use Rattle.meaning.specs.Programs.{actAt}
 use Rattle.meaning.specs.Step.{block, perform, verdict, become, put, apply}
+use Rattle.meaning.specs.Needs.{Need, holds-H, holds-N, unowned-headers, unowned, owns-headers, owns, headed, some-free, met, allMet, Asks, takes-H, takes-N, needs, no-line, asks, fails, waits}
 use Rattle.meaning.specs.Call.{Reply, step, callStore, isIdle}
 use Rattle.meaning.specs.Schedule.{Answered, placed, run, finishedBy, steps, longest}
-use Rattle.meaning.proofs.Base.Words.{same, either-way, by-held, held-is, none-held, upd-same, upd-other}
+use Rattle.meaning.proofs.Base.Words.{same, either-way, and-left, and-right, by-held, held-is, none-held, upd-same, upd-other}
 use Rattle.meaning.proofs.Base.Schedules.{replyOf}
 use Rattle.meaning.proofs.Invariant.{holdsH, holdsLock, ownsHeaders, ownsBlock, takesH, takesLock, Passes, takes, gives-up, Becomes, Puts, Guards, Inv}
 use Rattle.meaning.proofs.Invariant.Keeping.{everywhere}
+use Rattle.meaning.proofs.Acts.{Sight, map-of-n, headers, all-wear, content-of-p, shape, Ready, lands, was-ready, un-not, SameSights, same-deed}
 use Rattle.meaning.proofs.Lines.EveryLine.{idle-is}
 use Rattle.meaning.proofs.Progress.{inv-call, no-fault}
 use Rattle.meaning.proofs.EitherOrder.{Going, left-by, going-reply, going-moves, goes-unblocked}
@@ -66,40 +67,48 @@ mine-held t w = either-way (heldBy t w) (λ h. rw (h, h)) (λ h. rw (h, none-hel
 mine-free : (t w : ℕ) → free w ≡ true → free (mine t w) ≡ true
 mine-free t w f = either-way (heldBy t w) (λ h. rw h f) (λ h. rw h)
 
+-- what an act needs, t has alone too, and sees the same
 module _ (s : Store) (t : ℕ) (r : Thread) where
-  abbrev as-in : Act → Type 0
-  as-in a = perform a (alone t s) t r ≡ perform a s t r
+  met-alone : (x : Need) → met s t r x ≡ true → met (alone t s) t r x ≡ true
+  met-alone holds-H m = mine-held t (s .lock) ∙ m
+  met-alone holds-N m = mine-held t (s .locks (r .n)) ∙ m
+  met-alone unowned-headers m = mine-free t (s .owner) m
+  met-alone (unowned b) m = mine-free t (s .own (block b r)) m
+  met-alone owns-headers m = mine-held t (s .owner) ∙ m
+  met-alone (owns b) m = mine-held t (s .own (block b r)) ∙ m
+  met-alone (headed b) m = m
+  met-alone some-free m = m
 
-  perform-alone : (a : Act) → (perform a s t r ≡ Blocked → ⊥) → (perform a s t r ≡ Fault → ⊥) → as-in a
-  perform-alone Nothing b x = refl
-  perform-alone TakeH b x = either-way (free (s .lock)) (λ f. rw (f, mine-free t (s .lock) f)) (λ f. absurd (b (rw f)))
-  perform-alone ReleaseH b x = rw (mine-held t (s .lock))
-  perform-alone (FinishH a) b x = rw (mine-held t (s .lock))
-  perform-alone TakeN b x =
-      either-way (free (s .locks (r .n))) (λ f. rw (f, mine-free t (s .locks (r .n)) f)) (λ f. absurd (b (rw f)))
-  perform-alone ReleaseN b x = rw (mine-held t (s .locks (r .n)))
-  perform-alone (FinishN a) b x = rw (mine-held t (s .locks (r .n)))
-  perform-alone OwnHeaders b x =
-      either-way (free (s .owner)) (λ f. rw (f, mine-free t (s .owner) f)) (λ f. absurd (x (rw f)))
-  perform-alone LetGoHeaders b x = rw (mine-held t (s .owner))
-  perform-alone (Own c) b x =
-      either-way (free (s .own (block c r))) (λ f. rw (f, mine-free t (s .own (block c r)) f)) (λ f. absurd (x (rw f)))
-  perform-alone (LetGo c) b x = rw (mine-held t (s .own (block c r)))
-  perform-alone (GoIfMapped l) b x = refl
-  perform-alone (GoIfUnmapped l) b x = refl
-  perform-alone (EmptyIfUnmapped l) b x = refl
-  perform-alone (GoIfFree l) b x = refl
-  perform-alone PickFree b x = rw (mine-held t (s .owner))
-  perform-alone Choose b x = rw (mine-held t (s .owner))
-  perform-alone ReadHeader b x = rw (mine-held t (s .owner))
-  perform-alone WriteHeaderN b x = rw (mine-held t (s .owner), mine-held t (s .own (r .p)))
-  perform-alone WriteHeaderH b x = rw (mine-held t (s .owner), mine-held t (s .own (r .q)))
-  perform-alone FreeHeader b x = rw (mine-held t (s .owner), mine-held t (s .own (r .p)))
-  perform-alone EmptyContent b x = rw (mine-held t (s .own (r .p)))
-  perform-alone ReadContent b x = rw (mine-held t (s .own (r .p)))
-  perform-alone (WriteContent c) b x = rw (mine-held t (s .own (block c r)))
-  perform-alone (MapTo c) b x = refl
-  perform-alone Unmap b x = refl
+  all-alone : (l : List Need) → allMet s t r l ≡ true → allMet (alone t s) t r l ≡ true
+  all-alone [] m = refl
+  all-alone (x ∷ l) m =
+      rw (met-alone x (and-left (met s t r x) _ m)) (all-alone l (and-right (met s t r x) _ m))
+
+  fails-alone : (a : Asks) → fails s t r a ≡ false → fails (alone t s) t r a ≡ false
+  fails-alone takes-H m = m
+  fails-alone takes-N m = m
+  fails-alone (needs l) m = rw (all-alone l (un-not (allMet s t r l) m))
+  fails-alone no-line m = m
+
+  waits-alone : (a : Asks) → waits s r a ≡ false → waits (alone t s) r a ≡ false
+  waits-alone takes-H w = rw (mine-free t (s .lock) (un-not (free (s .lock)) w))
+  waits-alone takes-N w = rw (mine-free t (s .locks (r .n)) (un-not (free (s .locks (r .n))) w))
+  waits-alone (needs l) w = w
+  waits-alone no-line w = w
+
+  sights-alone : (l : List Sight) → SameSights s (alone t s) r l
+  sights-alone [] = tt
+  sights-alone (map-of-n ∷ l) = (refl, sights-alone l)
+  sights-alone (headers ∷ l) = (refl, sights-alone l)
+  sights-alone (all-wear ∷ l) = (refl, sights-alone l)
+  sights-alone (content-of-p ∷ l) = (refl, sights-alone l)
+
+  perform-alone : (a : Act) → (perform a s t r ≡ Blocked → ⊥) → (perform a s t r ≡ Fault → ⊥) →
+      perform a (alone t s) t r ≡ perform a s t r
+  perform-alone a b x =
+      let ready = was-ready a s t r (perform a s t r) (lands a s t r) b x in
+      same-deed s (alone t s) t r refl refl a (sights-alone (shape a .looks)) ready
+      (record { met = fails-alone (asks a) (ready .met); unblocked = waits-alone (asks a) (ready .unblocked) })
 
 passes-mine : {about : Type 0} (t w w′ : ℕ) → Passes about t w w′ → w′ ≡ mine t w′
 passes-mine t w w′ (takes _ _ e) = rw (e, by-held t)

@@ -1,6 +1,6 @@
 -- Which open operation has its place in the order of last locks, `placed`, and what a step does to that: a step that takes a last lock
 -- gives its own thread a place, a step that ends takes it away, and no other step gives or takes one, of its own thread or another.
--- What a line does to its thread's record and to the tables is said by the shape of its act (Shapes); the rest is tests at every line.
+-- What a line does to its thread's record and to the tables is said by the shape of its act (Acts); the rest is tests at every line.
 -- Assumes nothing.
 use mathlib.Core.Path.{_≡_, refl, sym, ap, _∙_, subst, fun-ext}
 use mathlib.Core.Bool.{Bool, true, false, not, _&&_, _||_}
@@ -20,6 +20,7 @@ use Rattle.meaning.specs.Holding.{none, free}
 use Rattle.meaning.specs.Programs.{WRITE, LEVEL, actAt, lastTake, unmovedTake}
 use Rattle.meaning.specs.Choosing.{toBlock, leastWorn, fromBlock, moves}
 use Rattle.meaning.specs.Step.{verdict, put, apply}
+use Rattle.meaning.specs.Needs.{asks, isTake}
 use Rattle.meaning.specs.Call.{isIdle, storedN, storedC}
 use Rattle.meaning.specs.Schedule.{takesLast, pastLast, mayMove, placed, operation}
 use Rattle.meaning.proofs.Base.Words.{either-way, clash, and-left, and-right, or-way, free-held, held-once}
@@ -29,7 +30,7 @@ use Rattle.meaning.proofs.Lines.{Fine}
 use Rattle.meaning.proofs.Lines.EveryLine.{fine}
 use Rattle.meaning.proofs.Progress.{up-busy}
 use Rattle.meaning.proofs.EitherOrder.{Goes, goes, ends, Going, told-going, goes-unblocked}
-use Rattle.meaning.proofs.OneAtATime.Shapes.{Shape, shape, Quiet, Onto, Lands, lands}
+use Rattle.meaning.proofs.Acts.{Shape, shape, Quiet, Onto, Lands, lands, waits-take}
 use Rattle.meaning.proofs.Base.Searches.{Best, best-finds, finds, finds-nobody}
 
 -- ---- what is said
@@ -95,7 +96,7 @@ write-rule op line =
 abbrev take-rule : Bool → ℕ → ℕ → Bool
 take-rule m op line =
     not (placedWhere m (standing op line))
-    || not (shapeAt op line .waits?) && (not (takesH (standing op line)) && not (takesN (standing op line)))
+    || not (isTake (asks (actAt op line))) && (not (takesH (standing op line)) && not (takesN (standing op line)))
 
 -- who takes its last lock has no place yet
 abbrev last-rule : Bool → ℕ → ℕ → Bool
@@ -212,7 +213,7 @@ module _ (s : Store) (I : Inv s) (t : ℕ) (busy : isIdle (s .thread t) ≡ fals
   rule : (test : ℕ → ℕ → Bool) → everyLine test ≡ true → test op line ≡ true
   rule test all = everywhere test all (s .thread t) (I .stands t)
 
-  module _ (r′ : Thread) (e : Effect) (O : Onto a (s .thread t) r′ e) where
+  module _ (r′ : Thread) (e : Effect) (O : Onto (actAt op line) s t (s .thread t) r′ e) where
     -- what holds of both lines to which it may go holds of the one
     at-next : (P : ℕ → Type 0) → P (line + 1) → P (a .jump line) → P (r′ .line)
     at-next P x y = go (O .line)
@@ -289,10 +290,10 @@ module _ (s : Store) (I : Inv s) (t : ℕ) (busy : isIdle (s .thread t) ≡ fals
     went-all : Went s t r′ e
     went-all = record { place = went-place; work = went-work; op = O .op; up = went-up; quiet = went-quiet }
 
-  goes-came : (v : Verdict) (n x : ℕ) (r′ : Thread) (e : Effect) → Goes v n x r′ e → Lands a (s .thread t) v →
+  goes-came : (v : Verdict) (n x : ℕ) (r′ : Thread) (e : Effect) → Goes v n x r′ e → Lands (actAt op line) s t (s .thread t) v →
       Came s t n r′ e
   goes-came v n x r′ e goes O = went refl (went-all r′ e O)
-  goes-came v n x r′ e ends d = over refl refl (rw (rw d at (rule ends-rule (rules .ends))))
+  goes-came v n x r′ e ends d = over refl refl (rw (rw (d .ends) at (rule ends-rule (rules .ends))))
 
 pub going-came : (s : Store) → Inv s → (t : ℕ) → (g : Going s t) → Came s t (g .number) (g .becomes) (g .effect)
 going-came s I t g =
@@ -318,7 +319,7 @@ first-unplaced s r st l =
 
 module _ (s : Store) (I : Inv s) (t : ℕ) (has : placed s (s .thread t) ≡ true) where
   abbrev goes-on : Bool
-  goes-on = not (shapeAt (s .thread t .op) (s .thread t .line) .waits?)
+  goes-on = not (isTake (asks (actAt (s .thread t .op) (s .thread t .line))))
 
   abbrev takes-none : Bool
   takes-none = not (takesH (s .thread t)) && not (takesN (s .thread t))
@@ -338,8 +339,10 @@ module _ (s : Store) (I : Inv s) (t : ℕ) (has : placed s (s .thread t) ≡ tru
   placed-busy = up-busy s I (placed s) refl t has
 
   verdict-going : (v : Verdict) → v ≡ verdict s t → Fine s t (s .thread t) v →
-      Lands (shapeAt (s .thread t .op) (s .thread t .line)) (s .thread t) v → Going s t
-  verdict-going Blocked e f l = clash l (not-true _ (and-left goes-on takes-none placed-takes))
+      Lands (actAt (s .thread t .op) (s .thread t .line)) s t (s .thread t) v → Going s t
+  verdict-going Blocked e f l =
+      clash (waits-take s (s .thread t) (asks (actAt (s .thread t .op) (s .thread t .line))) (l .1))
+      (not-true _ (and-left goes-on takes-none placed-takes))
   verdict-going Fault e f l = absurd f
   verdict-going (Go r′ x) e f l = told-going s t (placed-busy .0) (placed-busy .1) (Go r′ x) e refl
   verdict-going (Done v x) e f l = told-going s t (placed-busy .0) (placed-busy .1) (Done v x) e refl

@@ -25,7 +25,7 @@ use Rattle.meaning.proofs.Invariant.Keeping.{Moves}
 use Rattle.meaning.proofs.Lines.EveryLine.{idle-is, begins}
 use Rattle.meaning.proofs.Progress.{inv-call}
 use Rattle.meaning.proofs.EitherOrder.{sameTake, sameTake-sym, Goes, Going, left-by, going-reply, going-moves, still, still-left}
-use Rattle.meaning.proofs.OneAtATime.Shapes.{Quiet}
+use Rattle.meaning.proofs.Acts.{Quiet}
 use Rattle.meaning.proofs.OneAtATime.Places.{went, over, Came, going-came, first-unplaced, placed-takesH, placed-takesN, placed-going, placed-kept, last-kept}
 
 -- ---- what is said

@@ -1,0 +1,389 @@
+-- The acts walked, once: what `perform` comes to of each act (`lands`), and when it comes to the same at two stores (`same-deed`). All that
+-- is proved of every act is read off these two, so a change of an act is paid here and at the lines that have it.
+--  * A verdict is BLOCKED or FAULT exactly where specs/Needs says.
+--  * Else the line has the act's shape: what it may do to its thread's record beside going on to the next line, whether it ends, and to
+--    which tables it writes.
+--  * Where the words near the line are in bounds, so are those of its next record, its effect and its answer.
+-- Assumes nothing.
+use mathlib.Core.Path.{_≡_, refl, sym}
+use mathlib.Core.Bool.{Bool, true, false, not, cond, _&&_, and-false}
+use mathlib.Core.List.{List, [], _∷_}
+use mathlib.Core.Logic.{_⊎_, inl, inr}
+use Prim.Native.Nat.{ℕ, zero, suc, _+_, _<_, _≤_}
+use native.Mathlib.Omega.{arith}
+use lib.Dec.{eqb, ltb}
+use borrow.Author.Tests.{ltb-true, lt-ltb, le-ltb, eqb-true, eqb-false}
+use Rattle.meaning.specs.declared.Reg.{Reg}
+use Rattle.meaning.specs.declared.Reg.the-variants.{P, Q}
+use Rattle.meaning.specs.declared.Answer.{Answer}
+use Rattle.meaning.specs.declared.Answer.the-variants.{Zero, C, Moved}
+use Rattle.meaning.specs.declared.Act.{Act}
+use Rattle.meaning.specs.declared.Act.the-variants.{Nothing, TakeH, ReleaseH, FinishH, TakeN, ReleaseN, FinishN, OwnHeaders, LetGoHeaders, Own, LetGo, GoIfMapped, GoIfUnmapped, EmptyIfUnmapped, GoIfFree, PickFree, Choose, ReadHeader, WriteHeaderN, WriteHeaderH, FreeHeader, EmptyContent, ReadContent, WriteContent, MapTo, Unmap}
+use Rattle.meaning.specs.declared.Thread.{Thread}
+use Rattle.meaning.specs.declared.Update.the-variants.{Keep}
+use Rattle.meaning.specs.declared.Effect.{Effect}
+use Rattle.meaning.specs.declared.Found.{Found}
+use Rattle.meaning.specs.declared.Found.the-variants.{Nobody, At}
+use Rattle.meaning.specs.declared.Verdict.{Verdict}
+use Rattle.meaning.specs.declared.Verdict.the-variants.{Blocked, Fault, Go, Done}
+use Rattle.meaning.specs.Table.{every}
+use Rattle.meaning.specs.Store.{Store, idle}
+use Rattle.meaning.specs.Holding.{free, heldBy, named}
+use Rattle.meaning.specs.Choosing.{lowestFree, best, toBlock, leastWorn, fromBlock}
+use Rattle.meaning.specs.Step.{block, worn, answer, touches, heads, perform}
+use Rattle.meaning.specs.Needs.{Need, met, allMet, Asks, takes-H, takes-N, needs, no-line, asks, fails, waits, isTake}
+use Rattle.meaning.proofs.Base.Words.{either-way, clash, and-left, and-right, named-below}
+use Rattle.meaning.proofs.Base.Searches.{finds, finds-nobody, Lowest, lowest-finds, Best, best-finds}
+use Rattle.meaning.proofs.Invariant.{If, Becomes, Puts}
+
+-- ---- shapes
+
+-- what an act's line looks at beside lock and owner words: the map's entry of n, the headers, the wear of all blocks, the content of p
+pub data Sight : Type 0 where
+  map-of-n : Sight
+  headers : Sight
+  all-wear : Sight
+  content-of-p : Sight
+
+pub record Shape : Type 0 where
+  -- its line ends the operation
+  pub ends? : Bool
+  -- it changes locks and owners alone; it may wear a block; it keeps the registers n and c
+  pub quiet? : Bool
+  pub wears? : Bool
+  pub keepsN : Bool
+  pub keepsC : Bool
+  -- the line to which it may go from a line, if not to the next
+  pub jump : ℕ → ℕ
+  pub looks : List Sight
+
+abbrev shaped : Bool → Bool → Bool → Bool → Bool → (ℕ → ℕ) → List Sight → Shape
+shaped ends quiet wears n c jump looks =
+    record { ends? = ends; quiet? = quiet; wears? = wears; keepsN = n; keepsC = c; jump = jump; looks = looks }
+
+abbrev onwards : Shape
+onwards = shaped false true false true true (λ line. line + 1) []
+
+abbrev stops : Shape
+stops = shaped true true false true true (λ line. line + 1) []
+
+abbrev sees : List Sight → Shape
+sees looks = shaped false true false true true (λ line. line + 1) looks
+
+abbrev alters : Shape
+alters = shaped false false false true true (λ line. line + 1) []
+
+abbrev frees : Shape
+frees = shaped false false true true true (λ line. line + 1) (all-wear ∷ [])
+
+abbrev reads : Shape
+reads = shaped false true false true false (λ line. line + 1) (content-of-p ∷ [])
+
+abbrev jumps : ℕ → Shape
+jumps l = shaped false true false true true (λ line. l) (map-of-n ∷ [])
+
+abbrev empties : ℕ → Shape
+empties l = shaped false true false true false (λ line. l) (map-of-n ∷ [])
+
+abbrev names : ℕ → Shape
+names l = shaped false true false false true (λ line. l) []
+
+abbrev pub shape : Act → Shape
+shape Nothing = onwards
+shape TakeH = onwards
+shape ReleaseH = onwards
+shape (FinishH a) = stops
+shape TakeN = onwards
+shape ReleaseN = onwards
+shape (FinishN a) = stops
+shape OwnHeaders = onwards
+shape LetGoHeaders = onwards
+shape (Own b) = onwards
+shape (LetGo b) = onwards
+shape (GoIfMapped l) = jumps l
+shape (GoIfUnmapped l) = jumps l
+shape (EmptyIfUnmapped l) = empties l
+shape (GoIfFree l) = names l
+shape PickFree = sees (headers ∷ [])
+shape Choose = sees (headers ∷ all-wear ∷ [])
+shape ReadHeader = sees (headers ∷ [])
+shape WriteHeaderN = alters
+shape WriteHeaderH = alters
+shape FreeHeader = frees
+shape EmptyContent = alters
+shape ReadContent = reads
+shape (WriteContent b) = alters
+shape (MapTo b) = alters
+shape Unmap = alters
+
+-- an effect on locks and owners alone
+pub record Quiet (e : Effect) : Type 0 where
+  pub map : e .map ≡ Keep
+  pub header : e .header ≡ Keep
+  pub content : e .content ≡ Keep
+  pub wear : e .wear ≡ Keep
+
+-- ---- bounds
+
+-- thread t is one of the store's, and the words that its line may use are in bounds: contents, wear and c are at most some word
+pub record Near (s : Store) (t : ℕ) (r : Thread) (most : ℕ) : Type 0 where
+  pub thread : t < s .threads
+  pub n : r .n < s .numbers
+  pub p : r .p < s .blocks
+  pub q : r .q < s .blocks
+  pub h : r .h ≤ s .numbers
+  pub c : r .c ≤ most
+  pub map : s .map (r .n) ≤ s .blocks
+  pub header : s .header (r .p) ≤ s .numbers
+  pub content : s .content (r .p) ≤ most
+  pub wear : worn (s .wear (r .p)) ≤ most
+  pub moved : 1 ≤ most
+
+-- the registers, and what the effect puts
+pub record Bounded (s : Store) (most : ℕ) (r : Thread) (e : Effect) : Type 0 where
+  pub n : r .n < s .numbers
+  pub p : r .p < s .blocks
+  pub q : r .q < s .blocks
+  pub h : r .h ≤ s .numbers
+  pub c : r .c ≤ most
+  pub lock : Becomes (e .lock) (λ w. w ≤ s .threads)
+  pub owner : Becomes (e .owner) (λ w. w ≤ s .threads)
+  pub map : Puts (e .map) (λ k w. (k < s .numbers) × (w ≤ s .blocks))
+  pub locks : Puts (e .locks) (λ k w. (k < s .numbers) × (w ≤ s .threads))
+  pub header : Puts (e .header) (λ m w. (m < s .blocks) × (w ≤ s .numbers))
+  pub content : Puts (e .content) (λ m w. (m < s .blocks) × (w ≤ most))
+  pub wear : Puts (e .wear) (λ m w. (m < s .blocks) × (w ≤ most))
+  pub own : Puts (e .own) (λ m w. (m < s .blocks) × (w ≤ s .threads))
+
+-- ---- what an act comes to
+
+-- no need of the act is unmet, and it doesn't wait
+pub record Ready (s : Store) (t : ℕ) (r : Thread) (a : Act) : Type 0 where
+  pub met : fails s t r (asks a) ≡ false
+  pub unblocked : waits s r (asks a) ≡ false
+
+-- thread t with record r goes on with r′ and an effect, by act a
+pub record Onto (a : Act) (s : Store) (t : ℕ) (r r′ : Thread) (e : Effect) : Type 0 where
+  pub ready : Ready s t r a
+  pub goes : shape a .ends? ≡ false
+  pub op : r′ .op ≡ r .op
+  pub line : (r′ .line ≡ r .line + 1) ⊎ (r′ .line ≡ shape a .jump (r .line))
+  pub branch : If (not (shape a .keepsN)) (r′ .line ≡ cond (free (r .h)) (shape a .jump (r .line)) (r .line + 1))
+  pub n : If (shape a .keepsN) (r′ .n ≡ r .n)
+  pub c : If (shape a .keepsC) (r′ .c ≡ r .c)
+  pub quiet : If (shape a .quiet?) (Quiet e)
+  pub wear : If (not (shape a .wears?)) (e .wear ≡ Keep)
+  pub bounded : (most : ℕ) → Near s t r most → Bounded s most r′ e
+
+-- and ends with a value
+pub record Stops (a : Act) (s : Store) (t : ℕ) (r : Thread) (value : ℕ) (e : Effect) : Type 0 where
+  pub ready : Ready s t r a
+  pub ends : shape a .ends? ≡ true
+  pub wear : e .wear ≡ Keep
+  pub low : (most : ℕ) → Near s t r most → value ≤ most
+  pub bounded : (most : ℕ) → Near s t r most → Bounded s most idle e
+
+abbrev pub Lands : Act → Store → ℕ → Thread → Verdict → Type 0
+Lands a s t r Blocked = (fails s t r (asks a) ≡ false) × (waits s r (asks a) ≡ true)
+Lands a s t r Fault = (fails s t r (asks a) ≡ true) × (waits s r (asks a) ≡ false)
+Lands a s t r (Go r′ e) = Onto a s t r r′ e
+Lands a s t r (Done value e) = Stops a s t r value e
+
+-- ---- the first walk
+
+-- some block of the first k is free where the search finds one, and none where it finds nobody
+some-free : (header : ℕ → ℕ) (k m : ℕ) → m < k → free (header m) ≡ true → every k (λ m. not (free (header m))) ≡ false
+some-free header zero m b f = absurd (omega arith)
+some-free header (suc k) m b f =
+    either-way (eqb m k)
+    (λ e. rw (← eqb-true m k e, f) (and-false (every m (λ m. not (free (header m))))))
+    (λ e. let x : m ≡ k → ⊥ = eqb-false m k e in rw (some-free header k m (omega arith) f))
+
+none-free : (header : ℕ → ℕ) (k : ℕ) → ((m : ℕ) → m < k → free (header m) ≡ false) → every k (λ m. not (free (header m))) ≡ true
+none-free header zero all = refl
+none-free header (suc k) all = rw (none-free header k (λ m b. all m (omega arith)), all k (omega arith))
+
+answer-low : (a : Answer) {s : Store} {t : ℕ} {r : Thread} {most : ℕ} → Near s t r most → answer a r ≤ most
+answer-low Zero N = omega arith
+answer-low C N = N .c
+answer-low Moved {r} N = either-way (free (r .h)) (λ f. rw f (omega (arith, N .moved))) (λ f. rw f (omega (arith, N .moved)))
+
+-- two needs are met where both tests hold
+both-met : (x y : Bool) → x && y ≡ true → not (x && (y && true)) ≡ false
+both-met true true e = refl
+both-met true false e = sym e
+both-met false y e = sym e
+
+both-unmet : (x y : Bool) → x && y ≡ false → not (x && (y && true)) ≡ true
+both-unmet true true e = sym e
+both-unmet true false e = refl
+both-unmet false y e = refl
+
+picks : (s : Store) (t : ℕ) (r : Thread) → heldBy t (s .owner) ≡ true → Lands PickFree s t r (perform PickFree s t r)
+picks s t r f = go (lowest-finds (s .header) (s .blocks))
+  where
+    go : Lowest (s .header) (s .blocks) → Lands PickFree s t r (perform PickFree s t r)
+    go (finds m b x e) =
+        let met : fails s t r (asks PickFree) ≡ false = rw (f, some-free (s .header) (s .blocks) m b x) in
+        rw (f, e, lt-ltb m (s .blocks) b) (search (inl, arith))
+    go (finds-nobody all e) =
+        let unmet : fails s t r (asks PickFree) ≡ true = rw (f, none-free (s .header) (s .blocks) all) in
+        rw (f, e, le-ltb (s .blocks) (s .blocks) (omega arith)) (unmet, refl)
+
+abbrev Among : ℕ → Found → Type 0
+Among k Nobody = Unit {0}
+Among k (At m) = m < k
+
+best-among : (eligible : ℕ → Bool) (beats : ℕ → ℕ → Bool) (k : ℕ) → Among k (best eligible beats k)
+best-among eligible beats k = go (best-finds eligible beats k)
+  where
+    go : Best eligible beats k → Among k (best eligible beats k)
+    go (finds m b _ e) = rw e b
+    go (finds-nobody _ e) = rw e tt
+
+from-low : (wear : ℕ → ℕ) (distance blocks to : ℕ) (from : Found) → to < blocks → Among blocks from →
+    fromBlock wear distance to from < blocks
+from-low wear distance blocks to Nobody b x = b
+from-low wear distance blocks to (At f) b x = either-way (ltb (wear to) (wear f + distance)) (λ y. rw y b) (λ y. rw y x)
+
+chooses : (s : Store) (t : ℕ) (r : Thread) → heldBy t (s .owner) ≡ true → Lands Choose s t r (perform Choose s t r)
+chooses s t r f = go (best-finds (λ k. free (s .header k)) (λ k m. ltb (s .wear m) (s .wear k)) (s .blocks))
+  where
+    go : Best (λ k. free (s .header k)) (λ k m. ltb (s .wear m) (s .wear k)) (s .blocks) → Lands Choose s t r (perform Choose s t r)
+    go (finds m b x e) =
+        let from = leastWorn (s .header) (s .wear) (s .blocks) in
+        let low = from-low (s .wear) (s .distance) (s .blocks) m from b (best-among _ _ (s .blocks)) in
+        let met : fails s t r (asks Choose) ≡ false = rw (f, some-free (s .header) (s .blocks) m b x) in
+        rw (f, e) (search (inl, arith))
+    go (finds-nobody all e) =
+        let unmet : fails s t r (asks Choose) ≡ true = rw (f, none-free (s .header) (s .blocks) all) in
+        rw (f, e) (unmet, refl)
+
+pub lands : (a : Act) (s : Store) (t : ℕ) (r : Thread) → Lands a s t r (perform a s t r)
+lands Nothing s t r = search
+lands TakeH s t r = either-way (free (s .lock)) (λ f. rw f (search (inl, arith))) (λ f. rw f search)
+lands ReleaseH s t r = either-way (heldBy t (s .lock)) (λ f. rw f (search (inl, arith))) (λ f. rw f search)
+lands (FinishH a) s t r = either-way (heldBy t (s .lock)) (λ f. rw f (search (arith, answer-low a))) (λ f. rw f search)
+lands TakeN s t r = either-way (free (s .locks (r .n))) (λ f. rw f (search (inl, arith))) (λ f. rw f search)
+lands ReleaseN s t r = either-way (heldBy t (s .locks (r .n))) (λ f. rw f (search (inl, arith))) (λ f. rw f search)
+lands (FinishN a) s t r = either-way (heldBy t (s .locks (r .n))) (λ f. rw f (search (arith, answer-low a))) (λ f. rw f search)
+lands OwnHeaders s t r = either-way (free (s .owner)) (λ f. rw f (search (inl, arith))) (λ f. rw f search)
+lands LetGoHeaders s t r = either-way (heldBy t (s .owner)) (λ f. rw f (search (inl, arith))) (λ f. rw f search)
+lands (Own P) s t r = either-way (free (s .own (block P r))) (λ f. rw f (search (inl, arith))) (λ f. rw f search)
+lands (Own Q) s t r = either-way (free (s .own (block Q r))) (λ f. rw f (search (inl, arith))) (λ f. rw f search)
+lands (LetGo P) s t r = either-way (heldBy t (s .own (block P r))) (λ f. rw f (search (inl, arith))) (λ f. rw f search)
+lands (LetGo Q) s t r = either-way (heldBy t (s .own (block Q r))) (λ f. rw f (search (inl, arith))) (λ f. rw f search)
+lands (GoIfMapped l) s t r = either-way (free (s .map (r .n))) (λ f. rw f (search (inl, arith))) (λ f. rw f (search (inr, arith, named-below)))
+lands (GoIfUnmapped l) s t r = either-way (free (s .map (r .n))) (λ f. rw f (search (inr, arith))) (λ f. rw f (search (inl, arith, named-below)))
+lands (EmptyIfUnmapped l) s t r = either-way (free (s .map (r .n))) (λ f. rw f (search (inr, arith))) (λ f. rw f (search (inl, arith, named-below)))
+lands (GoIfFree l) s t r =
+    either-way (free (r .h)) (λ f. let x : l ≡ cond (free (r .h)) l (r .line + 1) = rw f in rw f (search (inr, arith)))
+    (λ f. let x : r .line + 1 ≡ cond (free (r .h)) l (r .line + 1) = rw f in rw f (search (inl, arith, named-below)))
+lands PickFree s t r = either-way (heldBy t (s .owner)) (λ f. picks s t r f) (λ f. rw f search)
+lands Choose s t r = either-way (heldBy t (s .owner)) (λ f. chooses s t r f) (λ f. rw f search)
+lands ReadHeader s t r = either-way (heldBy t (s .owner)) (λ f. rw f (search (inl, arith))) (λ f. rw f search)
+lands WriteHeaderN s t r = either-way (heads s t (r .p)) (λ f. rw f (search (inl, arith, both-met))) (λ f. rw f (search both-unmet))
+lands WriteHeaderH s t r = either-way (heads s t (r .q)) (λ f. rw f (search (inl, arith, both-met))) (λ f. rw f (search both-unmet))
+lands FreeHeader s t r = either-way (heads s t (r .p)) (λ f. rw f (search (inl, arith, both-met))) (λ f. rw f (search both-unmet))
+lands EmptyContent s t r = either-way (touches s t (r .p)) (λ f. rw f (search (inl, arith, both-met))) (λ f. rw f (search both-unmet))
+lands ReadContent s t r = either-way (touches s t (r .p)) (λ f. rw f (search (inl, arith, both-met))) (λ f. rw f (search both-unmet))
+lands (WriteContent P) s t r = either-way (touches s t (block P r)) (λ f. rw f (search (inl, arith, both-met))) (λ f. rw f (search both-unmet))
+lands (WriteContent Q) s t r = either-way (touches s t (block Q r)) (λ f. rw f (search (inl, arith, both-met))) (λ f. rw f (search both-unmet))
+lands (MapTo P) s t r = search (inl, arith)
+lands (MapTo Q) s t r = search (inl, arith)
+lands Unmap s t r = search (inl, arith)
+
+-- who waits is about to take a lock
+pub waits-take : (s : Store) (r : Thread) (a : Asks) → waits s r a ≡ true → isTake a ≡ true
+waits-take s r takes-H w = refl
+waits-take s r takes-N w = refl
+waits-take s r (needs l) w = w
+waits-take s r no-line w = w
+
+-- who is neither BLOCKED nor meets FAULT was ready
+pub was-ready : (a : Act) (s : Store) (t : ℕ) (r : Thread) (v : Verdict) → Lands a s t r v → (v ≡ Blocked → ⊥) → (v ≡ Fault → ⊥) →
+    Ready s t r a
+was-ready a s t r Blocked l b x = absurd (b refl)
+was-ready a s t r Fault l b x = absurd (x refl)
+was-ready a s t r (Go r′ e) l b x = l .ready
+was-ready a s t r (Done value e) l b x = l .ready
+
+-- who meets no FAULT has what it needs
+pub unfaulted : (a : Act) (s : Store) (t : ℕ) (r : Thread) (v : Verdict) → Lands a s t r v → (v ≡ Fault → ⊥) → fails s t r (asks a) ≡ false
+unfaulted a s t r Blocked l x = l .0
+unfaulted a s t r Fault l x = absurd (x refl)
+unfaulted a s t r (Go r′ e) l x = l .ready .met
+unfaulted a s t r (Done value e) l x = l .ready .met
+
+-- ---- the second walk
+
+-- what the act looks at is the same at both stores
+abbrev pub Same : Store → Store → Thread → Sight → Type 0
+Same s s′ r map-of-n = s′ .map (r .n) ≡ s .map (r .n)
+Same s s′ r headers = s′ .header ≡ s .header
+Same s s′ r all-wear = s′ .wear ≡ s .wear
+Same s s′ r content-of-p = s′ .content (r .p) ≡ s .content (r .p)
+
+abbrev pub SameSights : Store → Store → Thread → List Sight → Type 0
+SameSights s s′ r [] = Unit {0}
+SameSights s s′ r (x ∷ l) = Same s s′ r x × SameSights s s′ r l
+
+-- what an act asks for is granted, a fact each
+abbrev AllGranted : Store → ℕ → Thread → List Need → Type 0
+AllGranted s t r [] = Unit {0}
+AllGranted s t r (x ∷ l) = (met s t r x ≡ true) × AllGranted s t r l
+
+abbrev Granted : Store → ℕ → Thread → Asks → Type 0
+Granted s t r takes-H = free (s .lock) ≡ true
+Granted s t r takes-N = free (s .locks (r .n)) ≡ true
+Granted s t r (needs l) = AllGranted s t r l
+Granted s t r no-line = ⊥
+
+pub un-not : (x : Bool) → not x ≡ false → x ≡ true
+un-not true e = refl
+un-not false e = sym e
+
+all-granted : (s : Store) (t : ℕ) (r : Thread) (l : List Need) → allMet s t r l ≡ true → AllGranted s t r l
+all-granted s t r [] e = tt
+all-granted s t r (x ∷ l) e = (and-left (met s t r x) _ e, all-granted s t r l (and-right (met s t r x) _ e))
+
+granted : (s : Store) (t : ℕ) (r : Thread) (a : Asks) → fails s t r a ≡ false → waits s r a ≡ false → Granted s t r a
+granted s t r takes-H m f = un-not (free (s .lock)) f
+granted s t r takes-N m f = un-not (free (s .locks (r .n))) f
+granted s t r (needs l) m f = all-granted s t r l (un-not (allMet s t r l) m)
+granted s t r no-line m f = clash refl m
+
+-- so is what it does, where it is ready at both; the stores are of the same size
+module _ (s s′ : Store) (t : ℕ) (r : Thread) (blocks : s′ .blocks ≡ s .blocks) (distance : s′ .distance ≡ s .distance) where
+  deeds : (a : Act) → SameSights s s′ r (shape a .looks) → Granted s t r (asks a) → Granted s′ t r (asks a) →
+      perform a s′ t r ≡ perform a s t r
+  deeds Nothing l g g′ = refl
+  deeds TakeH l g g′ = rw (g, g′)
+  deeds ReleaseH l g g′ = rw (g .0, g′ .0)
+  deeds (FinishH a) l g g′ = rw (g .0, g′ .0)
+  deeds TakeN l g g′ = rw (g, g′)
+  deeds ReleaseN l g g′ = rw (g .0, g′ .0)
+  deeds (FinishN a) l g g′ = rw (g .0, g′ .0)
+  deeds OwnHeaders l g g′ = rw (g .0, g′ .0)
+  deeds LetGoHeaders l g g′ = rw (g .0, g′ .0)
+  deeds (Own b) l g g′ = rw (g .0, g′ .0)
+  deeds (LetGo b) l g g′ = rw (g .0, g′ .0)
+  deeds (GoIfMapped k) l g g′ = rw (l .0)
+  deeds (GoIfUnmapped k) l g g′ = rw (l .0)
+  deeds (EmptyIfUnmapped k) l g g′ = rw (l .0)
+  deeds (GoIfFree k) l g g′ = refl
+  deeds PickFree l g g′ = rw (g .0, g′ .0, blocks, l .0)
+  deeds Choose l g g′ = rw (g .0, g′ .0, blocks, distance, l .0, l .1 .0)
+  deeds ReadHeader l g g′ = rw (g .0, g′ .0, l .0)
+  deeds WriteHeaderN l g g′ = rw (g .0, g .1 .0, g′ .0, g′ .1 .0)
+  deeds WriteHeaderH l g g′ = rw (g .0, g .1 .0, g′ .0, g′ .1 .0)
+  deeds FreeHeader l g g′ = rw (g .0, g .1 .0, g′ .0, g′ .1 .0, l .0)
+  deeds EmptyContent l g g′ = rw (g .0, g .1 .0, g′ .0, g′ .1 .0)
+  deeds ReadContent l g g′ = rw (g .0, g .1 .0, g′ .0, g′ .1 .0, l .0)
+  deeds (WriteContent b) l g g′ = rw (g .0, g .1 .0, g′ .0, g′ .1 .0)
+  deeds (MapTo b) l g g′ = refl
+  deeds Unmap l g g′ = refl
+
+  pub same-deed : (a : Act) → SameSights s s′ r (shape a .looks) → Ready s t r a → Ready s′ t r a → perform a s′ t r ≡ perform a s t r
+  same-deed a l g g′ =
+      deeds a l (granted s t r (asks a) (g .met) (g .unblocked)) (granted s′ t r (asks a) (g′ .met) (g′ .unblocked))

@@ -1,0 +1,111 @@
+-- What a line needs, and what it waits for: 01, the paragraph "A line's needs", and the row BLOCKED of the table of numbers, for each act.
+-- `perform` of Step doesn't use this page. That FAULT and BLOCKED come exactly where it says is proved of `perform` (proofs/Acts) and of
+-- areas (`faults-exactly` and `blocks-exactly` of the crate demands).
+use mathlib.Core.Bool.{Bool, true, false, not, _&&_}
+use mathlib.Core.List.{List, [], _∷_}
+use Prim.Native.Nat.{ℕ}
+use Rattle.meaning.specs.declared.Reg.{Reg}
+use Rattle.meaning.specs.declared.Reg.the-variants.{P, Q}
+use Rattle.meaning.specs.declared.Act.{Act}
+use Rattle.meaning.specs.declared.Act.the-variants.{Nothing, TakeH, ReleaseH, FinishH, TakeN, ReleaseN, FinishN, OwnHeaders, LetGoHeaders, Own, LetGo, GoIfMapped, GoIfUnmapped, EmptyIfUnmapped, GoIfFree, PickFree, Choose, ReadHeader, WriteHeaderN, WriteHeaderH, FreeHeader, EmptyContent, ReadContent, WriteContent, MapTo, Unmap}
+use Rattle.meaning.specs.declared.Thread.{Thread}
+use Rattle.meaning.specs.Table.{every}
+use Rattle.meaning.specs.Store.{Store}
+use Rattle.meaning.specs.Holding.{free, heldBy}
+use Rattle.meaning.specs.Step.{block}
+
+pub data Need : Type 0 where
+  -- this thread holds H; n.lock
+  holds-H : Need
+  holds-N : Need
+  -- nobody owns the headers; the block in a register
+  unowned-headers : Need
+  unowned : Reg → Need
+  -- this thread owns the headers; the block in a register
+  owns-headers : Need
+  owns : Reg → Need
+  -- the header of the block in a register isn't free
+  headed : Reg → Need
+  -- some block is free
+  some-free : Need
+
+-- of store s, for thread t with record r
+abbrev pub met : Store → ℕ → Thread → Need → Bool
+met s t r holds-H = heldBy t (s .lock)
+met s t r holds-N = heldBy t (s .locks (r .n))
+met s t r unowned-headers = free (s .owner)
+met s t r (unowned b) = free (s .own (block b r))
+met s t r owns-headers = heldBy t (s .owner)
+met s t r (owns b) = heldBy t (s .own (block b r))
+met s t r (headed b) = not (free (s .header (block b r)))
+met s t r some-free = not (every (s .blocks) (λ m. not (free (s .header m))))
+
+abbrev pub allMet : Store → ℕ → Thread → List Need → Bool
+allMet s t r [] = true
+allMet s t r (x ∷ l) = met s t r x && allMet s t r l
+
+-- what an act asks for: a free lock that it takes, H or n.lock, and else it is BLOCKED; or that its needs are met, and else it meets FAULT
+pub data Asks : Type 0 where
+  takes-H : Asks
+  takes-N : Asks
+  needs : List Need → Asks
+  -- there is no such line
+  no-line : Asks
+
+abbrev pub asks : Act → Asks
+-- "a take whose lock isn't free, held by itself included"
+asks TakeH = takes-H
+asks TakeN = takes-N
+-- "releasing a lock needs to hold it"
+asks ReleaseH = needs (holds-H ∷ [])
+asks (FinishH a) = needs (holds-H ∷ [])
+asks ReleaseN = needs (holds-N ∷ [])
+asks (FinishN a) = needs (holds-N ∷ [])
+-- "Owning needs no owner."
+asks OwnHeaders = needs (unowned-headers ∷ [])
+asks (Own b) = needs (unowned b ∷ [])
+-- "Letting go, content and header lines need ownership": letting go
+asks LetGoHeaders = needs (owns-headers ∷ [])
+asks (LetGo b) = needs (owns b ∷ [])
+-- "content needs the block owned by this thread and its header not free"
+asks EmptyContent = needs (owns P ∷ headed P ∷ [])
+asks ReadContent = needs (owns P ∷ headed P ∷ [])
+asks (WriteContent b) = needs (owns b ∷ headed b ∷ [])
+-- "writing a header needs headers and block"
+asks WriteHeaderN = needs (owns-headers ∷ owns P ∷ [])
+asks WriteHeaderH = needs (owns-headers ∷ owns Q ∷ [])
+asks FreeHeader = needs (owns-headers ∷ owns P ∷ [])
+-- "L4, W5 and L3 need headers; W5 and L3 also need some free block"
+asks ReadHeader = needs (owns-headers ∷ [])
+asks PickFree = needs (owns-headers ∷ some-free ∷ [])
+asks Choose = needs (owns-headers ∷ some-free ∷ [])
+-- "Map lines have no need."
+asks (MapTo b) = needs []
+asks Unmap = needs []
+-- nor have those that only look at the map, or at register h
+asks (GoIfMapped l) = needs []
+asks (GoIfUnmapped l) = needs []
+asks (EmptyIfUnmapped l) = needs []
+asks (GoIfFree l) = needs []
+asks Nothing = no-line
+
+-- a need of it fails
+abbrev pub fails : Store → ℕ → Thread → Asks → Bool
+fails s t r takes-H = false
+fails s t r takes-N = false
+fails s t r (needs l) = not (allMet s t r l)
+fails s t r no-line = true
+
+-- it has to wait
+abbrev pub waits : Store → Thread → Asks → Bool
+waits s r takes-H = not (free (s .lock))
+waits s r takes-N = not (free (s .locks (r .n)))
+waits s r (needs l) = false
+waits s r no-line = false
+
+-- it takes a lock
+abbrev pub isTake : Asks → Bool
+isTake takes-H = true
+isTake takes-N = true
+isTake (needs l) = false
+isTake no-line = false

@@ -193,7 +193,7 @@ module _ {a : List ℕ} {k : ℕ} {z : Sizes} (o : Opened a k z) {r : Thread} (i
 
     pub judges : {v : Verdict} → v ≡ perform (actAt (r .op) (r .line)) (decode a) k r → Judged a k z v
     judges {v} e =
-        let w = works in
+        let act = perform (actAt (r .op) (r .line)) (decode a) k r in
         record {
           opened = o;
           telling =
@@ -202,8 +202,9 @@ module _ {a : List ℕ} {k : ℕ} {z : Sizes} (o : Opened a k z) {r : Thread} (i
               (sym (e ∙ ap (λ x. perform (actAt (x .op) (x .line)) (decode a) k x) is)));
           inside =
               subst (VerdictInside (z .n) (z .p)) (sym e)
-              (perform-inside (z .n) (z .p) (decode a) k r (omega (arith, w .n-low, o .live .numbers))
-              (omega (arith, w .p-low, o .live .blocks)) (omega (arith, w .q-low, o .live .blocks)) (actAt (r .op) (r .line)));
+              (subst (λ (n : ℕ). VerdictInside n (z .p) act) (o .live .numbers)
+              (subst (λ (p : ℕ). VerdictInside (word a nAt) p act) (o .live .blocks)
+              (perform-inside (decode a) (facts a (o .well)) k low r works (actAt (r .op) (r .line)))));
         }
 
 -- what was judged is a verdict x

@@ -173,15 +173,15 @@ pub record Onto (a : Act) (s : Store) (t : ℕ) (r r′ : Thread) (e : Effect) :
   pub c : If (shape a .keepsC) (r′ .c ≡ r .c)
   pub quiet : If (shape a .quiet?) (Quiet e)
   pub wear : If (not (shape a .wears?)) (e .wear ≡ Keep)
-  pub bounded : (most : ℕ) → Near s t r most → Bounded s most r′ e
+  pub bounded : (most : ℕ) → NearBounded s t r most → Bounded s most r′ e
 
 -- and ends with a value
 pub record Stops (a : Act) (s : Store) (t : ℕ) (r : Thread) (value : ℕ) (e : Effect) : Type 0 where
   pub ready : Ready s t r a
   pub ends : shape a .ends? ≡ true
   pub wear : e .wear ≡ Keep
-  pub low : (most : ℕ) → Near s t r most → value ≤ most
-  pub bounded : (most : ℕ) → Near s t r most → Bounded s most idle e
+  pub low : (most : ℕ) → NearBounded s t r most → value ≤ most
+  pub bounded : (most : ℕ) → NearBounded s t r most → Bounded s most idle e
 
 abbrev pub Lands : Act → Store → ℕ → Thread → Verdict → Type 0
 Lands a s t r Blocked = (fails s t r (asks a) ≡ false) × (waits s r (asks a) ≡ true)
@@ -203,7 +203,7 @@ none-free : (header : ℕ → ℕ) (k : ℕ) → ((m : ℕ) → m < k → free (
 none-free header zero all = refl
 none-free header (suc k) all = rw (none-free header k (λ m b. all m (omega arith)), all k (omega arith))
 
-answer-low : (a : Answer) {s : Store} {t : ℕ} {r : Thread} {most : ℕ} → Near s t r most → answer a r ≤ most
+answer-low : (a : Answer) {s : Store} {t : ℕ} {r : Thread} {most : ℕ} → NearBounded s t r most → answer a r ≤ most
 answer-low Zero N = omega arith
 answer-low C N = N .c
 answer-low Moved {r} N = either-way (free (r .h)) (λ f. rw f (omega (arith, N .moved))) (λ f. rw f (omega (arith, N .moved)))

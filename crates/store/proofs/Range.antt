@@ -1,25 +1,28 @@
 -- A store in range: sizes in limits, each word in its bounds and below 2^32, and 0 past the sizes. It is what a well-formed area of
 -- bytes holds, and its area is a well-formed one of bytes that holds it. Assumes nothing.
 use mathlib.Core.Path.{_≡_, refl, sym, _∙_, ap, subst}
-use mathlib.Core.Bool.{true}
+use mathlib.Core.Bool.{true, false}
 use mathlib.Core.List.{List, [], _∷_, _++_}
 use mathlib.Core.Logic.{inl, inr}
 use Prim.Native.Nat.{ℕ, zero, suc, _+_, _*_, _<_, _≤_}
 use native.Mathlib.Omega.{arith}
 use lib.Dec.{eqb, ltb}
 use lib.ListN.{length}
-use borrow.Author.Tests.{lt-ltb, le-ltb}
+use borrow.Author.Tests.{ltb-true, lt-ltb, le-ltb}
 use Rattle.meaning.specs.declared.Thread.{Thread}
 use Rattle.meaning.specs.Numbers.{WENT}
 use Rattle.meaning.specs.Limits.{mostWord, inLimits}
 use Rattle.meaning.specs.Store.{Store, idle, fresh}
-use Rattle.meaning.proofs.Base.Words.{either-way}
+use Rattle.meaning.specs.Step.{worn}
+use Rattle.meaning.specs.Call.{isIdle}
+use Rattle.meaning.proofs.Base.Words.{either-way, clash}
+use Rattle.meaning.proofs.Acts.{NearBounded}
 use Rattle.store.specs.Layout.{tAt, size}
 use Rattle.store.specs.Area.{Bytes, word, rows, threadRow, blockRow, words, encode, column, decode, wellFormed}
 use Rattle.store.specs.Calls.{formatArea, Formatted, format}
 use Rattle.store.proofs.Bytes.{OfWords, low-at, low-append, word-low, bytes-bytes}
 use Rattle.store.proofs.LastLines.{few-lines}
-use Rattle.store.proofs.Sound.{Sizes, limits-sizes, SoundThread, Sound, wellFormed-sound}
+use Rattle.store.proofs.Sound.{Sizes, limits-sizes, Working, SoundThread, Sound, near-sound, wellFormed-sound}
 use Rattle.store.proofs.Codec.{InRange, encode-decode, decode-encode, length-encode}
 
 -- ---- a store in range
@@ -177,6 +180,25 @@ pub sound-ranged : (s : Store) → Sound s → InRange s → Ranged s
 sound-ranged s S I =
     let e = decode-encode s I in
     subst Ranged e (decode-ranged (encode s) (bytes-bytes (words s)) (subst Sound (sym e) S))
+
+-- ---- an open thread
+
+worn-word : (w : ℕ) → w ≤ mostWord → worn w ≤ mostWord
+worn-word w low = either-way (ltb w mostWord) (λ x. let y = ltb-true w mostWord x in rw x (omega arith)) (λ x. rw x low)
+
+module _ (s : Store) (R : Ranged s) (t : ℕ) (below : t < s .threads) (busy : isIdle (s .thread t) ≡ false) where
+  pub open-working : Working (s .numbers) (s .blocks) (s .thread t)
+  open-working = go (R .thread t .sound below)
+    where
+      go : SoundThread (s .numbers) (s .blocks) (s .thread t) → Working (s .numbers) (s .blocks) (s .thread t)
+      go (inl e) = clash refl (rw e at busy)
+      go (inr w) = w
+
+  pub near-ranged : NearBounded s t (s .thread t) mostWord
+  near-ranged =
+      let w = open-working in
+      near-sound s (ranged-sound s R) t below (s .thread t) w mostWord (R .thread t .c) (R .content (s .thread t .p) .low (w .p-low))
+      (worn-word (s .wear (s .thread t .p)) (R .wear (s .thread t .p) .low (w .p-low))) (omega arith)
 
 -- ---- good areas
 

@@ -15,7 +15,9 @@ use Rattle.meaning.specs.Table.{every}
 use Rattle.meaning.specs.Limits.{least, mostThreads, mostNumbers, mostBlocks, mostDistance, within, inLimits}
 use Rattle.meaning.specs.Store.{Store, idle}
 use Rattle.meaning.specs.Programs.{LEVEL, lastLine}
+use Rattle.meaning.specs.Step.{worn}
 use Rattle.meaning.proofs.Base.Words.{and-left, and-right, within-true}
+use Rattle.meaning.proofs.Acts.{NearBounded}
 use Rattle.store.specs.Layout.{tAt, nAt, pAt, dAt, size, largest}
 use Rattle.store.specs.Live.{Live}
 use Rattle.store.specs.Area.{word, decode, zeros, working, soundThread, inBounds, sound, fitted, wellFormed}
@@ -230,6 +232,24 @@ facts-sound s f =
     (bound-table (s .locks) _ _ (f .locks)))
     (bound-table (s .header) _ _ (f .header)))
     (bound-table (s .own) _ _ (f .own)))
+
+-- the words near the line of a thread that works are in bounds, contents, wear and c at most any word that they are at most
+pub near-sound : (s : Store) → Sound s → (t : ℕ) → t < s .threads → (r : Thread) → Working (s .numbers) (s .blocks) r → (most : ℕ) →
+    r .c ≤ most → s .content (r .p) ≤ most → worn (s .wear (r .p)) ≤ most → 1 ≤ most → NearBounded s t r most
+near-sound s S t below r w most c content wear moved =
+    record {
+      thread = below;
+      n = w .n-low;
+      p = w .p-low;
+      q = w .q-low;
+      h = w .h-low;
+      c = c;
+      map = S .map (r .n) (w .n-low);
+      header = S .header (r .p) (w .p-low);
+      content = content;
+      wear = wear;
+      moved = moved;
+    }
 
 -- ---- the area
 

@@ -13,29 +13,35 @@
 --  * area-manager-maps, area-manager-maps-rest: there a number is mapped exactly where it is in the manager's mapped set. A read tells no
 --    difference between a written 0 and an unmapped number; the map does.
 --  * grown-one-block-each: two numbers never share a block.
+--  * grown-first-write-empty: a thread that has done W8, of a grown area, has empty in its block until it does W14, whoever steps between.
 -- The definitions are those of the crate meaning, specs/Demands and specs/Manager. Assumes nothing.
-use mathlib.Core.Path.{_≡_, sym, ap, subst}
+use mathlib.Core.Path.{_≡_, refl, sym, ap, _∙_, subst}
 use mathlib.Core.Bool.{true, false}
-use mathlib.Core.List.{List, _∷_, _++_}
+use mathlib.Core.List.{List, [], _∷_, _++_}
 use Prim.Native.Nat.{ℕ, _<_, _≤_}
+use native.Mathlib.Omega.{arith}
+use lib.Dec.{eqb}
 use lib.ListN.{length, getD}
+use Rattle.meaning.specs.Store.{Store}
 use Rattle.meaning.specs.Holding.{free, heldBy, named}
-use Rattle.meaning.specs.Programs.{READ}
-use Rattle.meaning.specs.Call.{Entry, callStore, isIdle}
-use Rattle.meaning.specs.Manager.{initial, ebmRead}
+use Rattle.meaning.specs.Programs.{WRITE, READ}
+use Rattle.meaning.specs.Call.{Entry, step, callStore, isIdle}
+use Rattle.meaning.specs.Manager.{empty, initial, ebmRead}
 use Rattle.meaning.specs.Schedule.{Operation, Answered, run, order, begunBy, finishedBy, obeyAll, managed, ofManager}
-use Rattle.meaning.specs.Demands.{isMapped, kept, leavesAlone, pending, Owed, requestOf, requests, place, Gives, ManagerAnswers, Linearizes, InRealTime}
+use Rattle.meaning.specs.Demands.{isMapped, kept, leavesAlone, pending, Owed, requestOf, requests, place, Gives, ManagerAnswers, Linearizes, EmptyTillW14, InRealTime}
+use Rattle.meaning.proofs.Progress.{up-busy}
+use Rattle.meaning.proofs.Progress.FirstWrite.{first-write-empty}
 use Rattle.meaning.proofs.Manager.{manager-answers, linearizable}
 use Rattle.meaning.proofs.Manager.View.{status, asked}
 use Rattle.meaning.proofs.Manager.Answers.{manager-status, manager-status-rest}
 use Rattle.meaning.proofs.Manager.Linearizable.{in-real-time, reads-give, read-finished, one-block-each}
 use Rattle.store.specs.Area.{decode}
 use Rattle.store.specs.Calls.{callArea, Formatted, Grown}
-use Rattle.store.proofs.Range.{formatted-good, formatted-fresh}
+use Rattle.store.proofs.Range.{good-ranged, formatted-good, formatted-fresh}
 use Rattle.demands.specs.RefusalTables.{rests}
-use Rattle.demands.specs.History.{AllWords}
-use Rattle.demands.proofs.Bridge.{order-decoded, begunBy-decoded, finishedBy-decoded, grown-inv}
-use Rattle.demands.proofs.History.{areas-follow, words-first}
+use Rattle.demands.specs.History.{AllWords, History, history}
+use Rattle.demands.proofs.Bridge.{order-decoded, begunBy-decoded, finishedBy-decoded, after-call, grown-good, grown-inv}
+use Rattle.demands.proofs.History.{history-decoded, areas-follow, words-first}
 
 module _ (a : List ℕ) (f : Formatted a) (w : List Entry) (x : AllWords w) where
   pub area-manager-answers : (u : ℕ) → ManagerAnswers callArea decode a w u
@@ -135,3 +141,16 @@ module _ (a : List ℕ) (f : Formatted a) (w : List Entry) (x : AllWords w) wher
 pub grown-one-block-each : (a : List ℕ) → Grown a → (k k′ : ℕ) → free (decode a .map k) ≡ false → free (decode a .map k′) ≡ false →
     (k ≡ k′ → ⊥) → named (decode a .map k) ≡ named (decode a .map k′) → ⊥
 grown-one-block-each a g = one-block-each (decode a) (grown-inv a g)
+
+-- "W8 content of p becomes empty": W8 of a grown area always goes, and w is any schedule after it
+pub grown-first-write-empty : (a : List ℕ) → Grown a → (t : ℕ) → decode a .thread t .op ≡ WRITE → decode a .thread t .line ≡ 8 →
+    (w : List Entry) → AllWords w → EmptyTillW14 callArea decode (callArea a (step t) .after) w t
+grown-first-write-empty a g t op line w x =
+    let good = grown-good a g in
+    let below = up-busy (decode a) (grown-inv a g) (λ r. eqb (r .op) WRITE) refl t (rw op) .0 in
+    let sizes = good-ranged a good .sizes in
+    let m = after-call a good (step t) (omega arith) in
+    subst (λ (h : History). h .finished t ≡ [] → h .left .thread t .line ≤ 14 → h .left .content (h .left .thread t .p) ≡ empty)
+    (sym (history-decoded (callArea a (step t) .after) (m .good) w x
+    ∙ ap (λ (s : Store). history callStore (λ s. s) s w) (m .decoded)))
+    (first-write-empty (decode a) (grown-inv a g) t op line w)

@@ -6,6 +6,8 @@
 --  * overtaking-comes: a read that overtakes a write stands before it in the order of last locks and gives empty; the bytes are those of
 --    the operations run one at a time in that order.
 --  * after-U10-comes: a read finishes with empty after U10, while the unmap is still open, and stands after it in the order.
+--  * reuse-comes, reuse-grown: an area grown from fresh at W8 of a write whose block still holds what was written before it was freed; W8
+--    empties it, and it is empty until W14.
 -- Assumes nothing.
 use mathlib.Core.Path.{_≡_, refl}
 use mathlib.Core.Bool.{Bool, true, _&&_}
@@ -18,12 +20,12 @@ use borrow.Author.Tests.{leb-true, eqb-true}
 use Rattle.meaning.specs.Numbers.{WENT, FAULT}
 use Rattle.meaning.specs.Limits.{mostWord}
 use Rattle.meaning.specs.Call.{Entry, begin, step}
-use Rattle.meaning.specs.Schedule.{formatted}
+use Rattle.meaning.specs.Schedule.{formatted, run}
 use Rattle.meaning.proofs.Base.Words.{and-left, and-right}
 use Rattle.store.specs.Layout.{size}
 use Rattle.store.specs.Area.{Bytes, wellFormed}
-use Rattle.store.specs.Calls.{format, Grown}
-use Rattle.demands.specs.Reached.{met, needs, Meeting, formed, reached, meet, meetings, Each, overlap, overtaking, overtaken, slipping, slipped}
+use Rattle.store.specs.Calls.{format, callArea, Grown}
+use Rattle.demands.specs.Reached.{met, needs, Meeting, formed, reached, meet, meetings, Each, overlap, overtaking, overtaken, slipping, slipped, contents, reusing, reused}
 use Rattle.demands.specs.History.{AllWords}
 use Rattle.demands.proofs.Bridge.{run-grown}
 
@@ -43,7 +45,11 @@ pub after-U10-comes : overlap (formed 2 1 2 1 .after) slipping ≡ slipped
 unfolding wellFormed
 after-U10-comes = refl
 
--- ---- the meetings' areas are grown from fresh
+pub reuse-comes : contents 7 (run callArea (formed 1 1 2 1 .after) reusing) ≡ reused
+unfolding wellFormed
+reuse-comes = refl
+
+-- ---- the areas are grown from fresh
 
 replicate-bytes : (count v : ℕ) → v < 256 → Bytes (replicate count v)
 replicate-bytes zero v h i = omega arith
@@ -76,24 +82,32 @@ words-are (begin t op n c ∷ w) x =
     )
 words-are (step t ∷ w) x = (leb-true t mostWord (and-right (areWords w) _ x), words-are w (and-left (areWords w) _ x))
 
-startsWell : List Meeting → Bool
-startsWell [] = true
-startsWell (m ∷ l) = startsWell l && eqb (formed (m .t) (m .n) (m .p) (m .d) .number) WENT && areWords (m .before)
+-- a format that gives WENT, and a schedule of words
+startsWell : ℕ → ℕ → ℕ → ℕ → List Entry → Bool
+startsWell t n p d w = eqb (formed t n p d .number) WENT && areWords w
 
-each-grown : (l : List Meeting) → startsWell l ≡ true → Each (λ m. Grown (reached m)) l
+run-formed : (t n p d : ℕ) (w : List Entry) → startsWell t n p d w ≡ true → Grown (run callArea (formed t n p d .after) w)
 unfolding startsWell
+run-formed t n p d w x =
+    let starts = eqb-true (formed t n p d .number) WENT (and-left _ (areWords w) x) in
+    let bytes = replicate-bytes (size t n p) 255 (omega arith) in
+    run-grown (formed t n p d .after) (formatted (format (replicate (size t n p) 255) bytes t n p d starts)) w
+    (words-are w (and-right (eqb (formed t n p d .number) WENT) _ x))
+
+allStart : List Meeting → Bool
+allStart [] = true
+allStart (m ∷ l) = allStart l && startsWell (m .t) (m .n) (m .p) (m .d) (m .before)
+
+each-grown : (l : List Meeting) → allStart l ≡ true → Each (λ m. Grown (reached m)) l
+unfolding allStart
 each-grown [] x = tt
 each-grown (m ∷ l) x =
-    let went = eqb (formed (m .t) (m .n) (m .p) (m .d) .number) WENT in
-    let y = and-left (startsWell l && went) (areWords (m .before)) x in
-    let bytes = replicate-bytes (size (m .t) (m .n) (m .p)) 255 (omega arith) in
-    let starts = eqb-true (formed (m .t) (m .n) (m .p) (m .d) .number) WENT (and-right (startsWell l) went y) in (
-      run-grown (formed (m .t) (m .n) (m .p) (m .d) .after)
-          (formatted (format (replicate (size (m .t) (m .n) (m .p)) 255) bytes (m .t) (m .n) (m .p) (m .d) starts)) (m .before)
-          (words-are (m .before) (and-right (startsWell l && went) _ x)),
-      each-grown l (and-left (startsWell l) went y),
-    )
+    (run-formed (m .t) (m .n) (m .p) (m .d) (m .before) (and-right (allStart l) _ x), each-grown l (and-left (allStart l) _ x))
 
 pub meetings-grown : Each (λ m. Grown (reached m)) meetings
-unfolding meetings startsWell areWords
+unfolding meetings allStart startsWell areWords
 meetings-grown = each-grown meetings refl
+
+pub reuse-grown : Grown (run callArea (formed 1 1 2 1 .after) reusing)
+unfolding startsWell areWords
+reuse-grown = run-formed 1 1 2 1 reusing refl

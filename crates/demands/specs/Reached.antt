@@ -1,8 +1,8 @@
 -- What the demands' theorems are not empty of, as data: areas made by hand whose step meets FAULT, one for each need of each act, areas
--- grown from fresh at which two threads meet, and operations that overlap.
+-- grown from fresh at which two threads meet, operations that overlap, and a block that is written again.
 use mathlib.Core.Bool.{Bool, true, false, _&&_}
 use mathlib.Core.List.{List, [], _∷_}
-use Prim.Native.Nat.{ℕ, _+_}
+use Prim.Native.Nat.{ℕ, zero, suc, _+_}
 use lib.ListN.{replicate, set}
 use lib.Dec.{eqb, leb}
 use Rattle.meaning.specs.Numbers.{WENT, FINISHED, BLOCKED}
@@ -263,3 +263,45 @@ slipped =
       other-rests = true;
       alike = false;
     }
+
+-- ---- a block that is written again
+
+-- a step of thread 0: the line at which the thread stands, the step's number, and the content of the block in its register p before it and
+-- after it
+pub record Stepped : Type 0 where
+  pub op : ℕ
+  pub line : ℕ
+  pub number : ℕ
+  pub before : ℕ
+  pub after : ℕ
+
+abbrev pub contents : ℕ → List ℕ → List Stepped
+contents zero a = []
+contents (suc k) a =
+    record {
+      op = decode a .thread 0 .op;
+      line = decode a .thread 0 .line;
+      number = stepArea a 0 .number;
+      before = decode a .content (decode a .thread 0 .p);
+      after = decode (stepArea a 0 .after) .content (decode a .thread 0 .p);
+    }
+    ∷ contents k (stepArea a 0 .after)
+
+-- number 0 is written with 7 and unmapped; it is to be written with 8, and W7 is done
+abbrev pub reusing : List Entry
+reusing = does 0 WRITE 0 7 16 (does 0 UNMAP 0 0 11 (does 0 WRITE 0 8 7 []))
+
+abbrev pub goesAt : ℕ → ℕ → ℕ → Stepped
+goesAt line before after = record { op = WRITE; line = line; number = WENT; before = before; after = after }
+
+-- "A freed block keeps its content word": 7 until W8, then empty until W14
+abbrev pub reused : List Stepped
+reused =
+    goesAt 8 7 0
+    ∷ goesAt 9 0 0
+    ∷ goesAt 10 0 0
+    ∷ goesAt 11 0 0
+    ∷ goesAt 12 0 0
+    ∷ goesAt 13 0 0
+    ∷ goesAt 14 0 8
+    ∷ []

@@ -265,10 +265,11 @@ pub record GuardsHeader (s : Store) (t m : ℕ) : Type 0 where
   pub owner : heldBy t (s .owner) ≡ true
   pub own : heldBy t (s .own m) ≡ true
 
--- a content: the block's owner, with the lock of whatever number is mapped to the block
+-- a content: the block's owner, with the lock of whatever number is mapped to the block or named by its header
 pub record GuardsContent (s : Store) (t m : ℕ) : Type 0 where
   pub own : heldBy t (s .own m) ≡ true
   pub locks : (k : ℕ) → s .map k ≡ naming m → heldBy t (s .locks k) ≡ true
+  pub heads : (k : ℕ) → s .header m ≡ naming k → heldBy t (s .locks k) ≡ true
 
 -- a wear: H alone
 pub record GuardsWear (s : Store) (t m : ℕ) : Type 0 where

@@ -2,9 +2,11 @@
 -- a store faults; and where some thread has open work, some open thread can step.
 --  * Called: what a call comes to, four cases. To be read first.
 --  * Guarded: what the invariant says of headers, map and wear: 01, "Where a reasonable person goes wrong".
+--  * FirstWrite: from W8 to W14 the block of a first write holds empty.
 -- Assumes nothing.
 pub mod Called
 pub mod Guarded
+pub mod FirstWrite
 use mathlib.Core.Path.{_≡_, refl, sym, _∙_, subst}
 use mathlib.Core.Bool.{Bool, true, false}
 use mathlib.Core.List.{List, [], _∷_}

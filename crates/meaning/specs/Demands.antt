@@ -156,3 +156,10 @@ module _ {S : Type 0} (call : S → Entry → Reply S) (seen : S → Store) (s :
     pub rest-owed : List Answered
     pub owed : Owed (seen (run call s w)) u rest-owed
     pub answers : finishedBy call seen s u one-by-one ≡ finishedBy call seen s u w ++ rest-owed
+
+  -- "W8 content of p becomes empty". Where s is what W8 of thread t left: as long as t finishes nothing and hasn't done W14, its block
+  -- is empty.
+  abbrev pub EmptyTillW14 : ℕ → Type 0
+  EmptyTillW14 t =
+      finishedBy call seen s t w ≡ [] → seen (run call s w) .thread t .line ≤ 14 →
+      seen (run call s w) .content (seen (run call s w) .thread t .p) ≡ empty

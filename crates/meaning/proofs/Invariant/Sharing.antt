@@ -96,6 +96,7 @@ module _ (s : Store) (I : Inv s) where
       record {
         own = own;
         locks = λ k on. rw (naming-once k n (sym (I .agrees .headed k m on) ∙ headed)) lock;
+        heads = λ k head. rw (naming-once k n (sym head ∙ headed)) lock;
       }
 
   -- ---- headers

@@ -4,6 +4,8 @@
 --    one after the other, in the order of their last locks; and each thread's operations have answered the same.
 --  * area-answers-so-far: before that, finished or not, what a thread has finished with are the first of its answers in that run, and at
 --    most one is left, that of its open operation.
+--  * area-serial-whole: in that run each operation is begun, goes and finishes, and the steps that are left find its thread idle: nothing
+--    there is blocked or refused before its end.
 --  * area-each-once: a thread's operations in that order are those that it has begun, each once, but for one at most that has no place
 --    yet; and all of them are finished, but for one at most that is open.
 -- The definitions are those of the crate meaning, specs/Demands. Assumes nothing.
@@ -13,16 +15,17 @@ use mathlib.Core.List.{List, _++_}
 use Prim.Native.Nat.{ℕ}
 use Rattle.meaning.specs.Store.{Store}
 use Rattle.meaning.specs.Call.{Entry, callStore, isIdle}
-use Rattle.meaning.specs.Schedule.{Answered, run, order, finishedBy, serial}
-use Rattle.meaning.specs.Demands.{ofThread, ops, answeredOps, pending, placedOp, Owed, EachOnce, one-by-one, OneAtATime, AnswersSoFar}
+use Rattle.meaning.specs.Schedule.{Operation, Answered, run, replies, order, finishedBy, serial}
+use Rattle.meaning.specs.Demands.{ofThread, ops, answeredOps, pending, placedOp, Owed, RunsWhole, EachOnce, one-by-one, OneAtATime, AnswersSoFar}
 use Rattle.meaning.proofs.OneAtATime.{one-at-a-time, answers-so-far}
 use Rattle.meaning.proofs.OneAtATime.EachOnce.{each-once}
+use Rattle.meaning.proofs.OneAtATime.Whole.{serial-whole}
 use Rattle.store.specs.Area.{decode}
 use Rattle.store.specs.Calls.{callArea, Formatted}
 use Rattle.store.proofs.Range.{Good, decode-injective, formatted-good, formatted-fresh}
 use Rattle.demands.specs.RefusalTables.{rests}
 use Rattle.demands.specs.History.{AllWords}
-use Rattle.demands.proofs.Bridge.{run-good, run-decoded, order-decoded, finishedBy-decoded}
+use Rattle.demands.proofs.Bridge.{run-good, run-decoded, replies-decoded, order-decoded, finishedBy-decoded}
 use Rattle.demands.proofs.History.{areas-follow, serial-words}
 
 module _ (a : List ℕ) (f : Formatted a) (w : List Entry) (x : AllWords w) where
@@ -44,6 +47,18 @@ module _ (a : List ℕ) (f : Formatted a) (w : List Entry) (x : AllWords w) wher
   wholes-finished u =
       finishedBy-decoded a good u wholes wholes-words
       ∙ ap (λ (v : List Entry). finishedBy callStore (λ s. s) (decode a) u v) wholes-decoded
+
+  pub area-serial-whole : RunsWhole (order callArea decode a w) (replies callArea a (one-by-one callArea decode a w))
+  area-serial-whole =
+      let l = order-decoded a good w x in
+      let r =
+      replies-decoded a good wholes wholes-words ∙ ap (λ (v : List Entry). replies callStore (decode a) v) wholes-decoded in
+      let R =
+      formatted-fresh a f
+      (λ s. RunsWhole (order callStore (λ s. s) s w) (replies callStore s (one-by-one callStore (λ s. s) s w)))
+      (λ t n p d limits. serial-whole t n p d limits w) in
+      subst (λ (o : List Operation). RunsWhole o (replies callArea a wholes)) (sym l)
+      (subst (RunsWhole (order callStore (λ s. s) (decode a) w)) (sym r) R)
 
   pub area-one-at-a-time : ((u : ℕ) → rests (run callArea a w) u ≡ true) → OneAtATime callArea decode a w
   area-one-at-a-time idle =

@@ -7,6 +7,7 @@
 --  * Alone, Replay: a thread alone in a store, and the lines before its last lock run again.
 --  * LastLock: a step that takes a last lock turns what the store comes to into what the whole operation leaves.
 --  * EachOnce: each begun operation stands in the order at most once, and each finished one exactly once.
+--  * Whole: in the run of one after the other each operation is begun, goes and finishes; nothing waits there.
 --  * Samples: two schedules, computed.
 -- Assumes nothing.
 pub mod Shapes
@@ -16,6 +17,7 @@ pub mod Alone
 pub mod Replay
 pub mod LastLock
 pub mod EachOnce
+pub mod Whole
 pub mod Samples
 use mathlib.Core.Path.{_≡_, refl, sym, ap, _∙_, subst}
 use mathlib.Core.Bool.{Bool, true, false, _&&_, and-false}

@@ -2,6 +2,7 @@
 use mathlib.Core.Path.{_≡_}
 use mathlib.Core.Bool.{Bool, true, false, not, cond, _&&_, _||_}
 use mathlib.Core.List.{List, [], _∷_, _++_, map}
+use mathlib.Core.Logic.{_↔_}
 use Prim.Native.Nat.{ℕ, zero, suc, _+_, _<_, _≤_}
 use lib.Dec.{eqb}
 use lib.ListN.{length}
@@ -10,9 +11,9 @@ use Rattle.meaning.specs.Numbers.{WENT, FINISHED, IDLE}
 use Rattle.meaning.specs.Store.{Store}
 use Rattle.meaning.specs.Holding.{free, named}
 use Rattle.meaning.specs.Programs.{WRITE, READ, LEVEL, lastLine}
-use Rattle.meaning.specs.Call.{Reply, Entry, isIdle}
+use Rattle.meaning.specs.Call.{Reply, Entry, step, isIdle}
 use Rattle.meaning.specs.Manager.{empty, initial}
-use Rattle.meaning.specs.Schedule.{Operation, operation, Answered, emit, placed, run, order, begunBy, finishedBy, longest, serial, managed, ofManager}
+use Rattle.meaning.specs.Schedule.{Operation, operation, Answered, emit, takesLast, placed, run, order, begunBy, finishedBy, longest, serial, managed, ofManager}
 
 -- ---- what a store keeps
 
@@ -85,6 +86,13 @@ placeFrom false i later = suc (later i)
 abbrev pub place : (Operation → Bool) → List Operation → ℕ → ℕ
 place test [] i = 0
 place test (o ∷ l) i = placeFrom (test o) i (place test l)
+
+-- The call of e on s leaves s′ and answers this number. By it thread t's operation gains its place exactly where the call is a step of t that
+-- takes its last lock, and loses it exactly where the call is a step of t that finishes it.
+pub record PlaceChanges (s s′ : Store) (e : Entry) (number t : ℕ) : Type 0 where
+  pub gained : ((placed s (s .thread t) ≡ false) × (placed s′ (s′ .thread t) ≡ true)) ↔
+      ((e ≡ step t) × (number ≡ WENT) × (takesLast s (s .thread t) ≡ true))
+  pub lost : ((placed s (s .thread t) ≡ true) × (placed s′ (s′ .thread t) ≡ false)) ↔ ((e ≡ step t) × (number ≡ FINISHED))
 
 -- ---- what a read gives
 

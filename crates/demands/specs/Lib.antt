@@ -2,4 +2,5 @@
 pub mod History
 pub mod RefusalTables
 pub mod SameLock
+pub mod LastLock
 pub mod Reached

@@ -126,7 +126,7 @@ pub record Quiet (e : Effect) : Type 0 where
 -- ---- bounds
 
 -- thread t is one of the store's, and the words that its line may use are in bounds: contents, wear and c are at most some word
-pub record Near (s : Store) (t : ℕ) (r : Thread) (most : ℕ) : Type 0 where
+pub record NearBounded (s : Store) (t : ℕ) (r : Thread) (most : ℕ) : Type 0 where
   pub thread : t < s .threads
   pub n : r .n < s .numbers
   pub p : r .p < s .blocks

@@ -6,7 +6,9 @@
 --  * Settles: what a store comes to when those go on to their end; a thread that moves first doesn't change it.
 --  * Alone, Replay: a thread alone in a store, and the lines before its last lock run again.
 --  * LastLock: a step that takes a last lock turns what the store comes to into what the whole operation leaves.
+--  * LastIsLast: that step takes a lock, and the operation takes none after it; no other step gives it its place.
 --  * EachOnce: each begun operation stands in the order at most once, and each finished one exactly once.
+--  * Whole: in the run of one after the other each operation is begun, goes and finishes; nothing waits there.
 --  * Samples: two schedules, computed.
 -- Assumes nothing.
 pub mod Places
@@ -14,7 +16,9 @@ pub mod Settles
 pub mod Alone
 pub mod Replay
 pub mod LastLock
+pub mod LastIsLast
 pub mod EachOnce
+pub mod Whole
 pub mod Samples
 use mathlib.Core.Path.{_≡_, refl, sym, ap, _∙_, subst}
 use mathlib.Core.Bool.{Bool, true, false, _&&_, and-false}

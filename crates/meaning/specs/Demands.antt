@@ -2,16 +2,18 @@
 use mathlib.Core.Path.{_≡_}
 use mathlib.Core.Bool.{Bool, true, false, not, cond, _&&_, _||_}
 use mathlib.Core.List.{List, [], _∷_, _++_, map}
-use Prim.Native.Nat.{ℕ, zero, suc, _<_, _≤_}
+use mathlib.Core.Logic.{_↔_}
+use Prim.Native.Nat.{ℕ, zero, suc, _+_, _<_, _≤_}
 use lib.Dec.{eqb}
 use lib.ListN.{length}
 use Rattle.meaning.specs.declared.Thread.{Thread}
+use Rattle.meaning.specs.Numbers.{WENT, FINISHED, IDLE}
 use Rattle.meaning.specs.Store.{Store}
 use Rattle.meaning.specs.Holding.{free, named}
-use Rattle.meaning.specs.Programs.{WRITE, READ, LEVEL}
-use Rattle.meaning.specs.Call.{Reply, Entry, isIdle}
+use Rattle.meaning.specs.Programs.{WRITE, READ, LEVEL, lastLine}
+use Rattle.meaning.specs.Call.{Reply, Entry, step, isIdle}
 use Rattle.meaning.specs.Manager.{empty, initial}
-use Rattle.meaning.specs.Schedule.{Operation, operation, Answered, emit, placed, run, order, begunBy, finishedBy, serial, managed, ofManager}
+use Rattle.meaning.specs.Schedule.{Operation, operation, Answered, emit, takesLast, placed, run, order, begunBy, finishedBy, longest, serial, managed, ofManager}
 
 -- ---- what a store keeps
 
@@ -85,6 +87,13 @@ abbrev pub place : (Operation → Bool) → List Operation → ℕ → ℕ
 place test [] i = 0
 place test (o ∷ l) i = placeFrom (test o) i (place test l)
 
+-- The call of e on s leaves s′ and answers this number. By it thread t's operation gains its place exactly where the call is a step of t that
+-- takes its last lock, and loses it exactly where the call is a step of t that finishes it.
+pub record PlaceChanges (s s′ : Store) (e : Entry) (number t : ℕ) : Type 0 where
+  pub gained : ((placed s (s .thread t) ≡ false) × (placed s′ (s′ .thread t) ≡ true)) ↔
+      ((e ≡ step t) × (number ≡ WENT) × (takesLast s (s .thread t) ≡ true))
+  pub lost : ((placed s (s .thread t) ≡ true) × (placed s′ (s′ .thread t) ≡ false)) ↔ ((e ≡ step t) × (number ≡ FINISHED))
+
 -- ---- what a read gives
 
 -- no operation of the list passes the test
@@ -107,6 +116,21 @@ pub data Gives (k : ℕ) (l : List Operation) : ℕ → Type 0 where
   last-unmap : (before : List Operation) (o : Operation) (since : List Operation) → l ≡ before ++ (o ∷ since) → changes k o ≡ true →
       writes k o ≡ false → Without (changes k) since → Gives k l empty
   untouched : Without (changes k) l → Gives k l empty
+
+-- ---- operations run whole
+
+-- x so many times, and then the rest
+abbrev pub times : {A : Type 0} → ℕ → A → List A → List A
+times zero x l = l
+times (suc k) x l = x ∷ times k x l
+
+-- The list is what operations reply that are run whole, one after the other: each begin goes, then steps go, fewer than the operation has
+-- lines, then one finishes it, and the steps that are left of `longest` find the thread idle. Nothing waits, faults or is left open.
+pub data RunsWhole : List Operation → List (ℕ × ℕ) → Type 0 where
+  none-left : RunsWhole [] []
+  begun-went-finished : {o : Operation} {l : List Operation} {rest : List (ℕ × ℕ)} (going value left : ℕ) →
+      going < lastLine (o .op) → going + 1 + left ≡ longest → RunsWhole l rest →
+      RunsWhole (o ∷ l) ((WENT, 0) ∷ times going (WENT, 0) ((FINISHED, value) ∷ times left (IDLE, 0) rest))
 
 -- ---- what is said
 

@@ -1,14 +1,17 @@
 -- Schedules, what they leave and answer, and the order of last locks: 01, "The machine" and the end of "The lines".
 -- All of it is over any kind of store S with a call that replies and a way to see the store in it: stores themselves, and areas of bytes.
+use mathlib.Core.Path.{_≡_}
 use mathlib.Core.Bool.{Bool, true, false, not, cond, _&&_, _||_}
 use mathlib.Core.List.{List, [], _∷_}
+use mathlib.Core.Logic.{_⊎_}
 use Prim.Native.Nat.{ℕ, zero, suc, _≤_}
 use lib.Dec.{eqb, ltb}
+use Rattle.meaning.specs.declared.Act.the-variants.{TakeH, TakeN}
 use Rattle.meaning.specs.declared.Thread.{Thread}
 use Rattle.meaning.specs.Numbers.{WENT, FINISHED}
 use Rattle.meaning.specs.Limits.{mostWord}
 use Rattle.meaning.specs.Store.{Store}
-use Rattle.meaning.specs.Programs.{WRITE, READ, LEVEL, lastLine, lastTake, unmovedTake}
+use Rattle.meaning.specs.Programs.{WRITE, READ, LEVEL, lastLine, actAt, lastTake, unmovedTake}
 use Rattle.meaning.specs.Choosing.{moves}
 use Rattle.meaning.specs.Call.{Reply, Entry, begin, step, storedN, storedC}
 use Rattle.meaning.specs.Manager.{Manager, ebmWrite, ebmRead, ebmUnmap}
@@ -39,6 +42,10 @@ Words (begin t op n c) = (t ≤ mostWord) × (op ≤ mostWord) × (n ≤ mostWor
 Words (step t) = t ≤ mostWord
 
 -- ---- the last lock
+
+-- a thread with this record is about to take a lock: H, at W1, U1 and L1, or a number's, at W2, R1, U2 and L6
+abbrev pub AtTake : Thread → Type 0
+AtTake r = (actAt (r .op) (r .line) ≡ TakeH) ⊎ (actAt (r .op) (r .line) ≡ TakeN)
 
 -- "An operation's last lock is taken at W2, R1, U2, L6, or at L1 where nothing is moved": t's next step, if it goes, takes its last lock
 abbrev pub takesLast : Store → Thread → Bool

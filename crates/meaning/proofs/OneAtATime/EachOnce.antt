@@ -1,30 +1,27 @@
 -- Each once, over stores: for each thread, its operations in the order of last locks, and then the one that it has begun and that has no
 -- place yet, are those that it has begun, in the order in which it began them; and of those in the order all are finished, but for an open one that
 -- has its place (`each-once`). So each begun operation stands in the order at most once, and each finished one
--- exactly once. A step that takes a last lock takes a lock (`last-takes`).
+-- exactly once.
 -- Assumes nothing.
 use mathlib.Core.Path.{_≡_, refl, sym, ap, _∙_, subst}
 use mathlib.Core.Bool.{Bool, true, false, not, _&&_, _||_, and-true, and-false, or-false}
 use mathlib.Core.List.{List, [], _∷_, _++_, map-append, append-nil, append-assoc}
-use mathlib.Core.Logic.{_⊎_, inl, inr}
 use Prim.Native.Nat.{ℕ}
 use native.Mathlib.Omega.{arith}
 use lib.Dec.{eqb, ltb, leb}
 use borrow.Author.Tests.{eqb-true, eqb-false, ne-eqb}
-use Rattle.meaning.specs.declared.Act.the-variants.{TakeH, TakeN}
 use Rattle.meaning.specs.declared.Thread.{Thread}
 use Rattle.meaning.specs.Numbers.{WENT, FINISHED}
 use Rattle.meaning.specs.Limits.{within, inLimits}
 use Rattle.meaning.specs.Store.{Store, idle, fresh}
-use Rattle.meaning.specs.Programs.{WRITE, LEVEL, lastLine, actAt, lastTake, unmovedTake}
+use Rattle.meaning.specs.Programs.{WRITE, LEVEL}
 use Rattle.meaning.specs.Step.{nothing, apply}
 use Rattle.meaning.specs.Call.{Entry, begin, step, callStore, isIdle, begun, storedN, storedC, reply}
 use Rattle.meaning.specs.Schedule.{Operation, Answered, operation, emit, takesLast, placed, run, placing, starting, finishing, order, begunBy, finishedBy}
 use Rattle.meaning.specs.Demands.{byThread, ofThread, ops, answeredOps, pending, placedOp, EachOnce}
-use Rattle.meaning.proofs.Base.Words.{same, either-way, and-left, and-right, or-way, within-true, upd-same, upd-other}
+use Rattle.meaning.proofs.Base.Words.{same, either-way, within-true, upd-same, upd-other}
 use Rattle.meaning.proofs.Invariant.{Inv}
-use Rattle.meaning.proofs.Lines.{_▸_, from-at}
-use Rattle.meaning.proofs.Lines.EveryLine.{idle-is, open-line, begins}
+use Rattle.meaning.proofs.Lines.EveryLine.{idle-is, begins}
 use Rattle.meaning.proofs.Progress.{inv-fresh, inv-call}
 use Rattle.meaning.proofs.EitherOrder.{Going, left-by, can-going, going-reply, going-moves}
 use Rattle.meaning.proofs.OneAtATime.Places.{Went, went, over, Came, going-came, first-unplaced, last-unplaced, placed-kept}
@@ -32,25 +29,6 @@ use Rattle.meaning.proofs.OneAtATime.Settles.{stepped, stepped-is}
 use Rattle.meaning.proofs.OneAtATime.LastLock.{work}
 use Rattle.meaning.proofs.Base.Requests.{those-append}
 use Rattle.meaning.proofs.Base.Schedules.{by-begin, refused-not, step-stays, refused-number, placing-append, starting-append, finishing-append}
-
--- ---- a step that takes a last lock takes a lock
-
-pub last-takes : (s : Store) → Inv s → (t : ℕ) → isIdle (s .thread t) ≡ false → takesLast s (s .thread t) ≡ true →
-    (actAt (s .thread t .op) (s .thread t .line) ≡ TakeH) ⊎ (actAt (s .thread t .op) (s .thread t .line) ≡ TakeN)
-last-takes s I t busy takes =
-    let r = s .thread t in
-    let on = open-line r (I .stands t) busy in
-    let op = within-true WRITE LEVEL (r .op) (and-left _ (within 1 (lastLine (r .op)) (r .line)) on) in
-    or-way (eqb (r .line) (lastTake (r .op))) _ takes
-    (λ x. inr (rw (eqb-true (r .line) (lastTake (r .op)) x)
-    (from-at (λ op. actAt op (lastTake op) ≡ TakeN) LEVEL WRITE (refl ▸ refl ▸ refl ▸ refl ▸ tt) (r .op)
-    (omega arith) (omega arith))))
-    (λ x.
-    let y = and-left (eqb (r .op) LEVEL && eqb (r .line) unmovedTake) _ x in
-    inl (rw (
-      eqb-true (r .op) LEVEL (and-left (eqb (r .op) LEVEL) _ y),
-      eqb-true (r .line) unmovedTake (and-right (eqb (r .op) LEVEL) _ y),
-    )))
 
 -- ---- from one call to a schedule
 

@@ -22,7 +22,7 @@ use Rattle.meaning.specs.Choosing.{toBlock, leastWorn, fromBlock, moves}
 use Rattle.meaning.specs.Step.{verdict, put, apply}
 use Rattle.meaning.specs.Needs.{asks, isTake}
 use Rattle.meaning.specs.Call.{isIdle, storedN, storedC}
-use Rattle.meaning.specs.Schedule.{takesLast, pastLast, mayMove, placed, operation}
+use Rattle.meaning.specs.Schedule.{AtTake, takesLast, pastLast, mayMove, placed, operation}
 use Rattle.meaning.proofs.Base.Words.{either-way, clash, and-left, and-right, or-way, free-held, held-once}
 use Rattle.meaning.proofs.Invariant.{h-heads-p, chosen-now, q-free, holdsH, ownsHeaders, takesH, takesN, Stands, GuardsHeader, GuardsWear, Inv}
 use Rattle.meaning.proofs.Invariant.Keeping.{standing, everyLine, everywhere, up, put-kept, Moves}
@@ -328,6 +328,11 @@ module _ (s : Store) (I : Inv s) (t : ℕ) (has : placed s (s .thread t) ≡ tru
   placed-takes =
       rw has at (at-both take-rule (movesNow s) (s .thread t .op) (s .thread t .line)
       (everywhere (both take-rule) (rules .take) (s .thread t) (I .stands t)))
+
+  -- it is at no take
+  pub placed-no-take : AtTake (s .thread t) → ⊥
+  placed-no-take (inl x) = clash (ap (λ a. shape a .waits?) x) (not-true _ (and-left goes-on takes-none placed-takes))
+  placed-no-take (inr x) = clash (ap (λ a. shape a .waits?) x) (not-true _ (and-left goes-on takes-none placed-takes))
 
   pub placed-takesH : takesH (s .thread t) ≡ false
   placed-takesH = not-true _ (and-left (not (takesH (s .thread t))) _ (and-right goes-on takes-none placed-takes))

@@ -20,8 +20,10 @@ use Rattle.meaning.specs.Numbers.{WENT, FINISHED, BLOCKED, SHAPE, THREAD, BUSY,
 use Rattle.meaning.specs.Limits.{inLimits}
 use Rattle.meaning.specs.Store.{Store}
 use Rattle.meaning.specs.Call.{Outcome, refused, left, reply, check, Entry, begin, step, calling, callStore}
-use Rattle.meaning.specs.Schedule.{Words}
+use Rattle.meaning.specs.Step.{verdict}
+use Rattle.meaning.specs.Schedule.{Words, nextAct}
 use Rattle.meaning.proofs.Base.Words.{either-way, clash}
+use Rattle.meaning.proofs.Acts.{lands, unfaulted}
 use Rattle.meaning.proofs.Progress.{no-fault, progress}
 use Rattle.store.specs.Layout.{size}
 use Rattle.store.specs.Area.{Bytes, encode, decode, wellFormed}
@@ -98,7 +100,10 @@ grown-no-shape a g (step t) x = clash (grown-well-formed a g) (refusals a .step 
 pub grown-no-fault : (a : List ℕ) → Grown a → (t : ℕ) → stepArea a t .number ≡ FAULT → ⊥
 grown-no-fault a g t x =
     let z = refusals a .step t .fault .0 x in
-    no-fault (decode a) (grown-inv a g) t (ltb-true t _ (z .1 .0)) (not-true _ (z .1 .1 .0)) (z .1 .1 .1)
+    let r = decode a .thread t in
+    clash (z .1 .1 .1)
+    (unfaulted (nextAct r) (decode a) t r (verdict (decode a) t) (lands (nextAct r) (decode a) t r)
+    (no-fault (decode a) (grown-inv a g) t (ltb-true t _ (z .1 .0)) (not-true _ (z .1 .1 .0))))
 
 -- the number is that of the call on the store
 pub number-decoded : (a : List ℕ) → wellFormed a ≡ true → (e : Entry) → callArea a e .number ≡ callStore (decode a) e .number

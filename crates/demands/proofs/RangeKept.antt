@@ -7,7 +7,7 @@ use mathlib.Core.Logic.{_⊎_, inl, inr}
 use Prim.Native.Nat.{ℕ, _+_, _<_, _≤_}
 use native.Mathlib.Omega.{arith}
 use lib.Dec.{eqb, ltb}
-use borrow.Author.Tests.{ltb-true, le-leb, eqb-false}
+use borrow.Author.Tests.{ltb-true}
 use Rattle.meaning.specs.declared.Thread.{Thread}
 use Rattle.meaning.specs.declared.Word.{Word}
 use Rattle.meaning.specs.declared.Word.the-variants.{Stay, Become}
@@ -23,13 +23,13 @@ use Rattle.meaning.specs.Step.{nothing, verdict, become, put, apply}
 use Rattle.meaning.specs.Call.{Outcome, refused, left, isIdle, storedN, storedC, begun, told, Entry, begin, step, calling}
 use Rattle.meaning.specs.Schedule.{Words}
 use Rattle.meaning.proofs.Base.Words.{and-left, and-right, within-true, either-way, upd-each}
-use Rattle.meaning.proofs.Invariant.{Becomes, Puts, Stands}
+use Rattle.meaning.proofs.Invariant.{Becomes, Puts}
 use Rattle.meaning.proofs.Invariant.Keeping.{everyLine, everywhere}
 use Rattle.meaning.proofs.Base.Schedules.{by-begin, by-step}
 use Rattle.meaning.proofs.Lines.{_▸_, from-at}
 use Rattle.meaning.proofs.Acts.{shape, Bounded, Onto, Lands, lands}
-use Rattle.store.proofs.Sound.{Working, SoundThread}
-use Rattle.store.proofs.Range.{Cell, Seat, Ranged, open-working, near-ranged}
+use Rattle.store.proofs.Sound.{Working, SoundThread, open-working, working-stands}
+use Rattle.store.proofs.Range.{Cell, Seat, Ranged, near-ranged}
 
 -- ---- a record and an effect that keep it
 
@@ -90,24 +90,18 @@ module _ (s : Store) (R : Ranged s) (t : ℕ) (below : t < s .threads) where
     abbrev Line : ℕ → Type 0
     Line l = (1 ≤ l) × (l ≤ lastLine (r .op))
 
-    open-stands : Stands r
-    open-stands =
-        let w = open-working s R t below busy in
-        let some : r .op ≡ 0 → ⊥ = eqb-false (r .op) 0 busy in
-        let op : within WRITE LEVEL (r .op) ≡ true = rw (le-leb WRITE (r .op) (omega arith)) (le-leb (r .op) LEVEL (w .operation)) in
-        let line : within 1 (lastLine (r .op)) (r .line) ≡ true =
-        rw (le-leb 1 (r .line) (w .line .0)) (le-leb (r .line) (lastLine (r .op)) (w .line .1)) in
-        inr (rw op line)
+    works : Working (s .numbers) (s .blocks) r
+    works = open-working (R .thread t .sound below) busy
 
     goes-sound : (r′ : Thread) (e : Effect) → Onto (actAt (r .op) (r .line)) s t r r′ e → Bounded s mostWord r′ e →
         SoundThread (s .numbers) (s .blocks) r′
     goes-sound r′ e O B =
         let a = actAt (r .op) (r .line) in
-        let x = rw (busy, O .goes) at (everywhere stays stays-everywhere r open-stands) in
+        let x = rw (busy, O .goes) at (everywhere stays stays-everywhere r (working-stands works busy)) in
         let next = ltb-true (r .line) (lastLine (r .op)) (and-left (ltb (r .line) (lastLine (r .op))) _ x) in
         let to = within-true 1 (lastLine (r .op)) (shape a .jump (r .line)) (and-right (ltb (r .line) (lastLine (r .op))) _ x) in
         inr (record {
-          operation = rw (O .op) (open-working s R t below busy .operation);
+          operation = rw (O .op) (works .operation);
           line = rw (O .op) (go next to (O .line));
           n-low = B .n;
           p-low = B .p;

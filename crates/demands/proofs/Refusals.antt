@@ -1,14 +1,14 @@
 -- The tables of refusals hold of every area and argument (`refusal-tables`), one law for a check of a chain; and what is so of every
 -- refusal and of every effect is so of every call (`calling-each`). Assumes nothing.
-use mathlib.Core.Path.{_≡_, refl, ap}
+use mathlib.Core.Path.{_≡_, refl, sym, _∙_}
 use mathlib.Core.Bool.{Bool, true, false, not, _||_}
-use mathlib.Core.List.{List}
+use mathlib.Core.List.{List, [], _∷_}
 use mathlib.Core.Logic.{_↔_}
 use Prim.Native.Nat.{ℕ, _<_, _≤_}
 use native.Mathlib.Omega.{arith}
 use lib.Dec.{eqb, ltb}
 use lib.ListN.{length}
-use borrow.Author.Tests.{not-false, eqb-false}
+use borrow.Author.Tests.{ltb-true, not-true, not-false, eqb-false}
 use Rattle.meaning.specs.declared.Thread.{Thread}
 use Rattle.meaning.specs.declared.Effect.{Effect}
 use Rattle.meaning.specs.declared.Verdict.{Verdict}
@@ -16,14 +16,18 @@ use Rattle.meaning.specs.declared.Verdict.the-variants.{Blocked, Fault, Go, Don
 use Rattle.meaning.specs.Numbers.{WENT, FINISHED, BLOCKED, SHAPE, THREAD, BUSY, IDLE, LOGICAL, OPERATION, FAULT, LIMITS}
 use Rattle.meaning.specs.Limits.{within, inLimits}
 use Rattle.meaning.specs.Store.{Store, idle, fresh}
-use Rattle.meaning.specs.Programs.{WRITE, LEVEL}
+use Rattle.meaning.specs.Programs.{WRITE, LEVEL, actAt, lastLine}
 use Rattle.meaning.specs.Step.{nothing, verdict, apply}
 use Rattle.meaning.specs.Call.{Reply, Outcome, refused, left, reply, check, isIdle, begun, told, Entry, begin, step, calling}
-use Rattle.meaning.proofs.Base.Words.{either-way, clash}
+use Rattle.meaning.specs.Schedule.{nextAct}
+use Rattle.meaning.proofs.Base.Words.{either-way, clash, alike, alike-is}
+use Rattle.meaning.proofs.Acts.{shape, Lands, lands}
+use Rattle.meaning.proofs.Invariant.Keeping.{everywhere}
 use Rattle.store.specs.Layout.{size}
 use Rattle.store.specs.Calls.{callArea}
 use Rattle.store.specs.Area.{encode, decode, wellFormed}
-use Rattle.demands.specs.RefusalTables.{FormatRefusals, BeginRefusals, StepRefusals, Refusals}
+use Rattle.store.proofs.Sound.{wellFormed-sound, open-working, working-stands}
+use Rattle.demands.specs.RefusalTables.{known, rests, Past, lacking, barred, onLast, FormatRefusals, BeginRefusals, StepRefusals, Refusals}
 
 -- ---- the tables of refusals
 
@@ -37,11 +41,15 @@ module _ (a : List ℕ) where
   given-own true number o apart = (λ e. absurd (apart e), λ e. clash refl e)
   given-own false number o apart = (λ e. refl, λ e. refl)
 
-  -- a number of those after it
+  -- a number of those after it, where the check holds
+  given-under : (b : Bool) (number other : ℕ) (o : Outcome) {C : Type 0} → eqb number other ≡ false →
+      (b ≡ true → (given o ≡ other) ↔ C) → (given (check b number o) ≡ other) ↔ ((b ≡ true) × C)
+  given-under true number other o apart f = (λ e. (refl, f refl .0 e), λ c. f refl .1 (c .1))
+  given-under false number other o apart f = (λ e. absurd (eqb-false number other apart e), λ c. clash (c .0) refl)
+
   given-later : (b : Bool) (number other : ℕ) (o : Outcome) {C : Type 0} → eqb number other ≡ false → (given o ≡ other) ↔ C →
       (given (check b number o) ≡ other) ↔ ((b ≡ true) × C)
-  given-later true number other o apart f = (λ e. (refl, f .0 e), λ c. f .1 (c .1))
-  given-later false number other o apart f = (λ e. absurd (eqb-false number other apart e), λ c. clash (c .0) refl)
+  given-later b number other o apart f = given-under b number other o apart (λ _. f)
 
   -- a number of neither
   given-never : (b : Bool) (number other : ℕ) (o : Outcome) → eqb number other ≡ false → (given o ≡ other → ⊥) →
@@ -119,7 +127,10 @@ module _ (a : List ℕ) where
             (given-last logical LOGICAL WENT o₅ refl refl))));
       }
 
-  -- a line's own numbers
+  -- a line's own numbers: those that end are the operations' last
+
+  abbrev ends-at-last : ℕ → ℕ → Bool
+  ends-at-last op line = eqb op 0 || alike (shape (actAt op line) .ends?) (eqb line (lastLine op))
 
   line-never : (t : ℕ) (v : Verdict) (number : ℕ) → BLOCKED < number → number < FAULT → given (told (decode a) t v) ≡ number → ⊥
   line-never t Blocked number low high e = omega arith
@@ -127,33 +138,52 @@ module _ (a : List ℕ) where
   line-never t (Go r f) number low high e = omega arith
   line-never t (Done answer f) number low high e = omega arith
 
-  -- the number of a verdict, and the verdict of a number
+  -- the number of a verdict
   abbrev saying : ℕ → Verdict → ℕ
   saying t v = given (told (decode a) t v)
 
-  is-blocked : (t : ℕ) (v : Verdict) → saying t v ≡ BLOCKED → v ≡ Blocked
-  is-blocked t Blocked e = refl
-  is-blocked t Fault e = absurd (omega arith)
-  is-blocked t (Go r f) e = absurd (omega arith)
-  is-blocked t (Done answer f) e = absurd (omega arith)
+  module _ (t : ℕ) where
+    abbrev r : Thread
+    r = decode a .thread t
 
-  is-fault : (t : ℕ) (v : Verdict) → saying t v ≡ FAULT → v ≡ Fault
-  is-fault t Blocked e = absurd (omega arith)
-  is-fault t Fault e = refl
-  is-fault t (Go r f) e = absurd (omega arith)
-  is-fault t (Done answer f) e = absurd (omega arith)
+    abbrev Landing : Verdict → Type 0
+    Landing = Lands (nextAct r) (decode a) t r
 
-  is-go : (t : ℕ) (v : Verdict) → saying t v ≡ WENT → (r : Thread) × (f : Effect) × (v ≡ Go r f)
-  is-go t Blocked e = absurd (omega arith)
-  is-go t Fault e = absurd (omega arith)
-  is-go t (Go r f) e = (r, f, refl)
-  is-go t (Done answer f) e = absurd (omega arith)
+    says-blocked : (v : Verdict) → Landing v → (saying t v ≡ BLOCKED) ↔ (barred a t ≡ true)
+    says-blocked Blocked l = (λ e. l .1, λ e. refl)
+    says-blocked Fault l = (λ e. absurd (omega arith), λ e. clash e (l .1))
+    says-blocked (Go r′ f) l = (λ e. absurd (omega arith), λ e. clash e (l .ready .unblocked))
+    says-blocked (Done value f) l = (λ e. absurd (omega arith), λ e. clash e (l .ready .unblocked))
 
-  is-done : (t : ℕ) (v : Verdict) → saying t v ≡ FINISHED → (answer : ℕ) × (f : Effect) × (v ≡ Done answer f)
-  is-done t Blocked e = absurd (omega arith)
-  is-done t Fault e = absurd (omega arith)
-  is-done t (Go r f) e = absurd (omega arith)
-  is-done t (Done answer f) e = (answer, f, refl)
+    says-fault : (v : Verdict) → Landing v → (saying t v ≡ FAULT) ↔ (lacking a t ≡ true)
+    says-fault Blocked l = (λ e. absurd (omega arith), λ e. clash e (l .0))
+    says-fault Fault l = (λ e. l .0, λ e. refl)
+    says-fault (Go r′ f) l = (λ e. absurd (omega arith), λ e. clash e (l .ready .met))
+    says-fault (Done value f) l = (λ e. absurd (omega arith), λ e. clash e (l .ready .met))
+
+    -- the act ends its operation exactly at the last line
+    says-went : (v : Verdict) → Landing v → shape (nextAct r) .ends? ≡ onLast a t →
+        (saying t v ≡ WENT) ↔ Past (not (barred a t) ∷ not (lacking a t) ∷ []) (onLast a t ≡ false)
+    says-went Blocked l at = (λ e. absurd (omega arith), λ c. clash (l .1) (not-true _ (c .0)))
+    says-went Fault l at = (λ e. absurd (omega arith), λ c. clash (l .0) (not-true _ (c .1 .0)))
+    says-went (Go r′ f) l at = (λ e. (rw (l .ready .unblocked), (rw (l .ready .met), sym at ∙ l .goes)), λ c. refl)
+    says-went (Done value f) l at = (λ e. absurd (omega arith), λ c. clash (sym at ∙ l .ends) (c .1 .1))
+
+    says-finished : (v : Verdict) → Landing v → shape (nextAct r) .ends? ≡ onLast a t →
+        (saying t v ≡ FINISHED) ↔ Past (not (barred a t) ∷ not (lacking a t) ∷ []) (onLast a t ≡ true)
+    says-finished Blocked l at = (λ e. absurd (omega arith), λ c. clash (l .1) (not-true _ (c .0)))
+    says-finished Fault l at = (λ e. absurd (omega arith), λ c. clash (l .0) (not-true _ (c .1 .0)))
+    says-finished (Go r′ f) l at = (λ e. absurd (omega arith), λ c. clash (c .1 .1) (sym at ∙ l .goes))
+    says-finished (Done value f) l at = (λ e. (rw (l .ready .unblocked), (rw (l .ready .met), sym at ∙ l .ends)), λ c. refl)
+
+    landing : Landing (verdict (decode a) t)
+    landing = lands (nextAct r) (decode a) t r
+
+    ends-last : wellFormed a ≡ true → known a t ≡ true → not (rests a t) ≡ true → shape (nextAct r) .ends? ≡ onLast a t
+    ends-last f b o =
+        let busy : isIdle r ≡ false = not-true _ o in
+        let w = open-working (wellFormed-sound a .0 f .1 .thread t (ltb-true t _ b)) busy in
+        alike-is _ _ (rw busy at (everywhere ends-at-last refl r (working-stands w busy)))
 
   step-refusals : (t : ℕ) → StepRefusals a t
   step-refusals t =
@@ -181,20 +211,18 @@ module _ (a : List ℕ) where
             (λ e. not-false (isIdle (s .thread t)) (own .0 e), λ e. own .1 (rw e)));
         blocked =
             given-later shape SHAPE BLOCKED o₁ refl
-            (given-later thread THREAD BLOCKED o₂ refl
-            (given-later idle IDLE BLOCKED o₃ refl (is-blocked t v, λ e. ap (saying t) e)));
+            (given-later thread THREAD BLOCKED o₂ refl (given-later idle IDLE BLOCKED o₃ refl (says-blocked t v (landing t))));
         fault =
             given-later shape SHAPE FAULT o₁ refl
-            (given-later thread THREAD FAULT o₂ refl
-            (given-later idle IDLE FAULT o₃ refl (is-fault t v, λ e. ap (saying t) e)));
+            (given-later thread THREAD FAULT o₂ refl (given-later idle IDLE FAULT o₃ refl (says-fault t v (landing t))));
         went =
-            given-later shape SHAPE WENT o₁ refl
-            (given-later thread THREAD WENT o₂ refl
-            (given-later idle IDLE WENT o₃ refl (is-go t v, λ c. ap (saying t) (c .2))));
+            given-under shape SHAPE WENT o₁ refl (λ f.
+            given-under thread THREAD WENT o₂ refl (λ b.
+            given-under idle IDLE WENT o₃ refl (λ o. says-went t v (landing t) (ends-last t f b o))));
         finished =
-            given-later shape SHAPE FINISHED o₁ refl
-            (given-later thread THREAD FINISHED o₂ refl
-            (given-later idle IDLE FINISHED o₃ refl (is-done t v, λ c. ap (saying t) (c .2))));
+            given-under shape SHAPE FINISHED o₁ refl (λ f.
+            given-under thread THREAD FINISHED o₂ refl (λ b.
+            given-under idle IDLE FINISHED o₃ refl (λ o. says-finished t v (landing t) (ends-last t f b o))));
       }
 
   pub refusal-tables : Refusals a

@@ -6,15 +6,13 @@ use mathlib.Core.Logic.{_↔_}
 use Prim.Native.Nat.{ℕ, _<_, _≤_}
 use lib.Dec.{eqb, ltb}
 use lib.ListN.{length}
-use Rattle.meaning.specs.declared.Thread.{Thread}
-use Rattle.meaning.specs.declared.Effect.{Effect}
-use Rattle.meaning.specs.declared.Verdict.the-variants.{Blocked, Fault, Go, Done}
 use Rattle.meaning.specs.Numbers.{WENT, FINISHED, BLOCKED, SHAPE, THREAD, BUSY, IDLE, LOGICAL, OPERATION, FAULT, LIMITS}
 use Rattle.meaning.specs.Limits.{within, inLimits}
 use Rattle.meaning.specs.Store.{Store}
-use Rattle.meaning.specs.Programs.{WRITE, LEVEL}
-use Rattle.meaning.specs.Step.{verdict}
+use Rattle.meaning.specs.Programs.{WRITE, LEVEL, lastLine}
+use Rattle.meaning.specs.Needs.{asks, fails, waits}
 use Rattle.meaning.specs.Call.{isIdle}
+use Rattle.meaning.specs.Schedule.{nextAct}
 use Rattle.store.specs.Layout.{size}
 use Rattle.store.specs.Area.{decode, wellFormed}
 use Rattle.store.specs.Calls.{formatArea, beginArea, stepArea}
@@ -62,23 +60,33 @@ pub record BeginRefusals (a : List ℕ) (t op n c : ℕ) : Type 0 where
       (beginArea a t op n c .number ≡ WENT)
       ↔ Past (wellFormed a ∷ known a t ∷ rests a t ∷ operable op ∷ []) (numbered a op n ≡ true)
 
--- the line's own numbers come of its verdict
+-- of thread t's next line: a need of it isn't met; it is a take whose lock isn't free; it is its operation's last
+abbrev pub lacking : List ℕ → ℕ → Bool
+lacking a t = fails (decode a) t (decode a .thread t) (asks (nextAct (decode a .thread t)))
+
+abbrev pub barred : List ℕ → ℕ → Bool
+barred a t = waits (decode a) (decode a .thread t) (asks (nextAct (decode a .thread t)))
+
+abbrev pub onLast : List ℕ → ℕ → Bool
+onLast a t = eqb (decode a .thread t .line) (lastLine (decode a .thread t .op))
+
 pub record StepRefusals (a : List ℕ) (t : ℕ) : Type 0 where
   pub shape : (stepArea a t .number ≡ SHAPE) ↔ (wellFormed a ≡ false)
   pub thread : (stepArea a t .number ≡ THREAD) ↔ Past (wellFormed a ∷ []) (known a t ≡ false)
   pub idle : (stepArea a t .number ≡ IDLE) ↔ Past (wellFormed a ∷ known a t ∷ []) (rests a t ≡ true)
+  -- no line both waits and has a need
   pub blocked :
       (stepArea a t .number ≡ BLOCKED)
-      ↔ Past (wellFormed a ∷ known a t ∷ not (rests a t) ∷ []) (verdict (decode a) t ≡ Blocked)
+      ↔ Past (wellFormed a ∷ known a t ∷ not (rests a t) ∷ []) (barred a t ≡ true)
   pub fault :
       (stepArea a t .number ≡ FAULT)
-      ↔ Past (wellFormed a ∷ known a t ∷ not (rests a t) ∷ []) (verdict (decode a) t ≡ Fault)
+      ↔ Past (wellFormed a ∷ known a t ∷ not (rests a t) ∷ []) (lacking a t ≡ true)
   pub went :
       (stepArea a t .number ≡ WENT)
-      ↔ Past (wellFormed a ∷ known a t ∷ not (rests a t) ∷ []) ((r : Thread) × (e : Effect) × (verdict (decode a) t ≡ Go r e))
+      ↔ Past (wellFormed a ∷ known a t ∷ not (rests a t) ∷ not (barred a t) ∷ not (lacking a t) ∷ []) (onLast a t ≡ false)
   pub finished :
       (stepArea a t .number ≡ FINISHED)
-      ↔ Past (wellFormed a ∷ known a t ∷ not (rests a t) ∷ []) ((answer : ℕ) × (e : Effect) × (verdict (decode a) t ≡ Done answer e))
+      ↔ Past (wellFormed a ∷ known a t ∷ not (rests a t) ∷ not (barred a t) ∷ not (lacking a t) ∷ []) (onLast a t ≡ true)
 
 pub record Refusals (a : List ℕ) : Type 0 where
   pub format : (t n p d : ℕ) → FormatRefusals a t n p d

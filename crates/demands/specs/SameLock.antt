@@ -2,15 +2,10 @@
 use mathlib.Core.Path.{_≡_}
 use mathlib.Core.List.{List}
 use Prim.Native.Nat.{ℕ}
-use Rattle.meaning.specs.declared.Act.{Act}
 use Rattle.meaning.specs.declared.Act.the-variants.{TakeH, TakeN}
 use Rattle.meaning.specs.declared.Thread.{Thread}
-use Rattle.meaning.specs.Programs.{actAt}
+use Rattle.meaning.specs.Schedule.{nextAct}
 use Rattle.store.specs.Calls.{stepArea}
-
--- the act of a thread's next line
-abbrev pub nextAct : Thread → Act
-nextAct r = actAt (r .op) (r .line)
 
 -- two threads with these records are about to take the same lock: H, at W1, U1 and L1, or the lock of one number, at W2, R1, U2 and L6
 pub data SameLock (r q : Thread) : Type 0 where

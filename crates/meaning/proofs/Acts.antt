@@ -31,7 +31,7 @@ use Rattle.meaning.specs.Store.{Store, idle}
 use Rattle.meaning.specs.Holding.{free, heldBy, named}
 use Rattle.meaning.specs.Choosing.{lowestFree, best, toBlock, leastWorn, fromBlock}
 use Rattle.meaning.specs.Step.{block, worn, answer, touches, heads, perform}
-use Rattle.meaning.specs.Needs.{Need, met, allMet, Asks, takes-H, takes-N, needs, no-line, asks, fails, waits, isTake}
+use Rattle.meaning.specs.Needs.{Need, met, allMet, Asks, takes-H, takes-N, needs, no-line, asks, fails, waits}
 use Rattle.meaning.proofs.Base.Words.{either-way, clash, and-left, and-right, named-below}
 use Rattle.meaning.proofs.Base.Searches.{finds, finds-nobody, Lowest, lowest-finds, Best, best-finds}
 use Rattle.meaning.proofs.Invariant.{If, Becomes, Puts}
@@ -293,7 +293,13 @@ lands (MapTo P) s t r = search (inl, arith)
 lands (MapTo Q) s t r = search (inl, arith)
 lands Unmap s t r = search (inl, arith)
 
--- who waits is about to take a lock
+-- it takes a lock; who waits is about to
+abbrev pub isTake : Asks → Bool
+isTake takes-H = true
+isTake takes-N = true
+isTake (needs l) = false
+isTake no-line = false
+
 pub waits-take : (s : Store) (r : Thread) (a : Asks) → waits s r a ≡ true → isTake a ≡ true
 waits-take s r takes-H w = refl
 waits-take s r takes-N w = refl

@@ -102,10 +102,3 @@ waits s r takes-H = not (free (s .lock))
 waits s r takes-N = not (free (s .locks (r .n)))
 waits s r (needs l) = false
 waits s r no-line = false
-
--- it takes a lock
-abbrev pub isTake : Asks → Bool
-isTake takes-H = true
-isTake takes-N = true
-isTake (needs l) = false
-isTake no-line = false

@@ -6,6 +6,7 @@ use mathlib.Core.List.{List, [], _∷_}
 use mathlib.Core.Logic.{_⊎_}
 use Prim.Native.Nat.{ℕ, zero, suc, _≤_}
 use lib.Dec.{eqb, ltb}
+use Rattle.meaning.specs.declared.Act.{Act}
 use Rattle.meaning.specs.declared.Act.the-variants.{TakeH, TakeN}
 use Rattle.meaning.specs.declared.Thread.{Thread}
 use Rattle.meaning.specs.Numbers.{WENT, FINISHED}
@@ -43,9 +44,13 @@ Words (step t) = t ≤ mostWord
 
 -- ---- the last lock
 
+-- the act of a thread's next line
+abbrev pub nextAct : Thread → Act
+nextAct r = actAt (r .op) (r .line)
+
 -- a thread with this record is about to take a lock: H, at W1, U1 and L1, or a number's, at W2, R1, U2 and L6
 abbrev pub AtTake : Thread → Type 0
-AtTake r = (actAt (r .op) (r .line) ≡ TakeH) ⊎ (actAt (r .op) (r .line) ≡ TakeN)
+AtTake r = (nextAct r ≡ TakeH) ⊎ (nextAct r ≡ TakeN)
 
 -- "An operation's last lock is taken at W2, R1, U2, L6, or at L1 where nothing is moved": t's next step, if it goes, takes its last lock
 abbrev pub takesLast : Store → Thread → Bool

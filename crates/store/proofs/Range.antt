@@ -15,14 +15,14 @@ use Rattle.meaning.specs.Limits.{mostWord, inLimits}
 use Rattle.meaning.specs.Store.{Store, idle, fresh}
 use Rattle.meaning.specs.Step.{worn}
 use Rattle.meaning.specs.Call.{isIdle}
-use Rattle.meaning.proofs.Base.Words.{either-way, clash}
+use Rattle.meaning.proofs.Base.Words.{either-way}
 use Rattle.meaning.proofs.Acts.{NearBounded}
 use Rattle.store.specs.Layout.{tAt, size}
 use Rattle.store.specs.Area.{Bytes, word, rows, threadRow, blockRow, words, encode, column, decode, wellFormed}
 use Rattle.store.specs.Calls.{formatArea, Formatted, format}
 use Rattle.store.proofs.Bytes.{OfWords, low-at, low-append, word-low, bytes-bytes}
 use Rattle.store.proofs.LastLines.{few-lines}
-use Rattle.store.proofs.Sound.{Sizes, limits-sizes, Working, SoundThread, Sound, near-sound, wellFormed-sound}
+use Rattle.store.proofs.Sound.{Sizes, limits-sizes, SoundThread, Sound, open-working, near-sound, wellFormed-sound}
 use Rattle.store.proofs.Codec.{InRange, encode-decode, decode-encode, length-encode}
 
 -- ---- a store in range
@@ -186,19 +186,13 @@ sound-ranged s S I =
 worn-word : (w : ℕ) → w ≤ mostWord → worn w ≤ mostWord
 worn-word w low = either-way (ltb w mostWord) (λ x. let y = ltb-true w mostWord x in rw x (omega arith)) (λ x. rw x low)
 
-module _ (s : Store) (R : Ranged s) (t : ℕ) (below : t < s .threads) (busy : isIdle (s .thread t) ≡ false) where
-  pub open-working : Working (s .numbers) (s .blocks) (s .thread t)
-  open-working = go (R .thread t .sound below)
-    where
-      go : SoundThread (s .numbers) (s .blocks) (s .thread t) → Working (s .numbers) (s .blocks) (s .thread t)
-      go (inl e) = clash refl (rw e at busy)
-      go (inr w) = w
-
-  pub near-ranged : NearBounded s t (s .thread t) mostWord
-  near-ranged =
-      let w = open-working in
-      near-sound s (ranged-sound s R) t below (s .thread t) w mostWord (R .thread t .c) (R .content (s .thread t .p) .low (w .p-low))
-      (worn-word (s .wear (s .thread t .p)) (R .wear (s .thread t .p) .low (w .p-low))) (omega arith)
+pub near-ranged : (s : Store) → Ranged s → (t : ℕ) → t < s .threads → isIdle (s .thread t) ≡ false →
+    NearBounded s t (s .thread t) mostWord
+near-ranged s R t below busy =
+    let r = s .thread t in
+    let w = open-working (R .thread t .sound below) busy in
+    near-sound s (ranged-sound s R) t below r w mostWord (R .thread t .c) (R .content (r .p) .low (w .p-low))
+    (worn-word (s .wear (r .p)) (R .wear (r .p) .low (w .p-low))) (omega arith)
 
 -- ---- good areas
 

@@ -9,14 +9,16 @@ use native.Mathlib.Omega.{arith}
 use lib.Dec.{leb, ltb, eqb}
 use lib.ListN.{length}
 use borrow.Author.Count.{below-more}
-use borrow.Author.Tests.{leb-true, le-leb, ltb-true, lt-ltb, eqb-true, eq-eqb, ne-eqb}
+use borrow.Author.Tests.{leb-true, le-leb, ltb-true, lt-ltb, eqb-true, eqb-false, eq-eqb, ne-eqb}
 use Rattle.meaning.specs.declared.Thread.{Thread}
 use Rattle.meaning.specs.Table.{every}
 use Rattle.meaning.specs.Limits.{least, mostThreads, mostNumbers, mostBlocks, mostDistance, within, inLimits}
 use Rattle.meaning.specs.Store.{Store, idle}
-use Rattle.meaning.specs.Programs.{LEVEL, lastLine}
+use Rattle.meaning.specs.Programs.{WRITE, LEVEL, lastLine}
 use Rattle.meaning.specs.Step.{worn}
-use Rattle.meaning.proofs.Base.Words.{and-left, and-right, within-true}
+use Rattle.meaning.specs.Call.{isIdle}
+use Rattle.meaning.proofs.Base.Words.{clash, and-left, and-right, within-true}
+use Rattle.meaning.proofs.Invariant.{Stands}
 use Rattle.meaning.proofs.Acts.{NearBounded}
 use Rattle.store.specs.Layout.{tAt, nAt, pAt, dAt, size, largest}
 use Rattle.store.specs.Live.{Live}
@@ -232,6 +234,19 @@ facts-sound s f =
     (bound-table (s .locks) _ _ (f .locks)))
     (bound-table (s .header) _ _ (f .header)))
     (bound-table (s .own) _ _ (f .own)))
+
+-- an open thread works, and stands at a line of its operation
+pub open-working : {n p : ℕ} {r : Thread} → SoundThread n p r → isIdle r ≡ false → Working n p r
+open-working (inl e) busy = clash refl (rw e at busy)
+open-working (inr w) busy = w
+
+pub working-stands : {n p : ℕ} {r : Thread} → Working n p r → isIdle r ≡ false → Stands r
+working-stands {r = r} w busy =
+    let some : r .op ≡ 0 → ⊥ = eqb-false (r .op) 0 busy in
+    let op : within WRITE LEVEL (r .op) ≡ true = rw (le-leb WRITE (r .op) (omega arith)) (le-leb (r .op) LEVEL (w .operation)) in
+    let line : within 1 (lastLine (r .op)) (r .line) ≡ true =
+    rw (le-leb 1 (r .line) (w .line .0)) (le-leb (r .line) (lastLine (r .op)) (w .line .1)) in
+    inr (rw op line)
 
 -- the words near the line of a thread that works are in bounds, contents, wear and c at most any word that they are at most
 pub near-sound : (s : Store) → Sound s → (t : ℕ) → t < s .threads → (r : Thread) → Working (s .numbers) (s .blocks) r → (most : ℕ) →

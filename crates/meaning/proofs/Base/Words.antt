@@ -1,7 +1,7 @@
 -- Laws of words that are 0 or a number plus one (specs/Holding), of entries of a table, and of tests.
 -- Assumes nothing.
 use mathlib.Core.Path.{_≡_, refl, sym, _∙_}
-use mathlib.Core.Bool.{Bool, true, false, _&&_, _||_}
+use mathlib.Core.Bool.{Bool, true, false, not, _&&_, _||_}
 use Prim.Native.Nat.{ℕ, _+_, _-_, _<_, _≤_}
 use native.Mathlib.Omega.{arith}
 use lib.Dec.{eqb, leb}
@@ -28,6 +28,17 @@ pub two-ways : (a b : Bool) → (a ≡ true → b ≡ true) → (b ≡ true → 
 two-ways true b f g = sym (f refl)
 two-ways false true f g = g refl
 two-ways false false f g = refl
+
+-- two tests go the same way
+abbrev pub alike : Bool → Bool → Bool
+alike true b = b
+alike false b = not b
+
+pub alike-is : (a b : Bool) → alike a b ≡ true → a ≡ b
+alike-is true true x = refl
+alike-is true false x = sym x
+alike-is false true x = x
+alike-is false false x = refl
 
 pub and-left : (a b : Bool) → (a && b) ≡ true → a ≡ true
 and-left true b e = refl

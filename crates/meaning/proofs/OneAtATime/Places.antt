@@ -9,6 +9,7 @@ use Prim.Native.Nat.{ℕ, _+_, _<_}
 use native.Mathlib.Omega.{arith}
 use lib.Dec.{eqb, ltb}
 use borrow.Author.Tests.{eqb-true, eqb-false, eq-eqb, ltb-true, not-true}
+use Rattle.meaning.specs.declared.Act.{Act}
 use Rattle.meaning.specs.declared.Thread.{Thread}
 use Rattle.meaning.specs.declared.Effect.{Effect}
 use Rattle.meaning.specs.declared.Found.the-variants.{At}
@@ -20,17 +21,17 @@ use Rattle.meaning.specs.Holding.{none, free}
 use Rattle.meaning.specs.Programs.{WRITE, LEVEL, actAt, lastTake, unmovedTake}
 use Rattle.meaning.specs.Choosing.{toBlock, leastWorn, fromBlock, moves}
 use Rattle.meaning.specs.Step.{verdict, put, apply}
-use Rattle.meaning.specs.Needs.{asks, isTake}
+use Rattle.meaning.specs.Needs.{asks}
 use Rattle.meaning.specs.Call.{isIdle, storedN, storedC}
 use Rattle.meaning.specs.Schedule.{AtTake, takesLast, pastLast, mayMove, placed, operation}
-use Rattle.meaning.proofs.Base.Words.{either-way, clash, and-left, and-right, or-way, free-held, held-once}
+use Rattle.meaning.proofs.Base.Words.{either-way, clash, alike, alike-is, and-left, and-right, or-way, free-held, held-once}
 use Rattle.meaning.proofs.Invariant.{h-heads-p, chosen-now, q-free, holdsH, ownsHeaders, takesH, takesN, Stands, GuardsHeader, GuardsWear, Inv}
 use Rattle.meaning.proofs.Invariant.Keeping.{standing, everyLine, everywhere, up, put-kept, Moves}
 use Rattle.meaning.proofs.Lines.{Fine}
 use Rattle.meaning.proofs.Lines.EveryLine.{fine}
 use Rattle.meaning.proofs.Progress.{up-busy}
 use Rattle.meaning.proofs.EitherOrder.{Goes, goes, ends, Going, told-going, goes-unblocked}
-use Rattle.meaning.proofs.Acts.{Shape, shape, Quiet, Onto, Lands, lands, waits-take}
+use Rattle.meaning.proofs.Acts.{Shape, shape, Quiet, Onto, Lands, lands, isTake, waits-take}
 use Rattle.meaning.proofs.Base.Searches.{Best, best-finds, finds, finds-nobody}
 
 -- ---- what is said
@@ -54,16 +55,6 @@ shapeAt op line = shape (actAt op line)
 -- L5, where what follows depends on the header that was read
 abbrev branches : ℕ → ℕ → Bool
 branches op line = h-heads-p (standing op line)
-
-abbrev alike : Bool → Bool → Bool
-alike true b = b
-alike false b = not b
-
-alike-is : (a b : Bool) → alike a b ≡ true → a ≡ b
-alike-is true true x = refl
-alike-is true false x = sym x
-alike-is false true x = x
-alike-is false false x = refl
 
 -- who ends has its place
 abbrev ends-rule : ℕ → ℕ → Bool
@@ -331,8 +322,8 @@ module _ (s : Store) (I : Inv s) (t : ℕ) (has : placed s (s .thread t) ≡ tru
 
   -- it is at no take
   pub placed-no-take : AtTake (s .thread t) → ⊥
-  placed-no-take (inl x) = clash (ap (λ a. shape a .waits?) x) (not-true _ (and-left goes-on takes-none placed-takes))
-  placed-no-take (inr x) = clash (ap (λ a. shape a .waits?) x) (not-true _ (and-left goes-on takes-none placed-takes))
+  placed-no-take (inl x) = clash (ap (λ (a : Act). isTake (asks a)) x) (not-true _ (and-left goes-on takes-none placed-takes))
+  placed-no-take (inr x) = clash (ap (λ (a : Act). isTake (asks a)) x) (not-true _ (and-left goes-on takes-none placed-takes))
 
   pub placed-takesH : takesH (s .thread t) ≡ false
   placed-takesH = not-true _ (and-left (not (takesH (s .thread t))) _ (and-right goes-on takes-none placed-takes))

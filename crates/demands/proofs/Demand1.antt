@@ -2,6 +2,9 @@
 --  * refusals: each refusal number comes back exactly where the table of 01, "Numbers given back", says; for every area and argument.
 --  * refusal-keeps: a number of 2 or more, BLOCKED included, leaves the area as it was; for every area and argument.
 --  * unfinished-value: the value is 0 except where an operation finishes, for format, begin and step; for every area and argument.
+--  * finishing-values: what a finishing step gives: a write and an unmap 0, a read register c, a levelling whether h is free; for every area.
+--  * wear-counted, wear-never-falls: a block's wear goes up by one exactly where a step frees it, until the largest word, and is never lowered;
+--    of every area of bytes, grown or made by hand.
 --  * formed-kept: a call never turns a well-formed area into a malformed one, grown from fresh or made by hand.
 --  * sizes-kept, grown-sizes: a call never changes T, N, P or D.
 --  * grown-well-formed, grown-no-shape: an area grown from fresh is well formed, so no call on it answers SHAPE.
@@ -9,25 +12,28 @@
 --  * grown-progress: where some thread of an area grown from fresh has open work, some open thread's step answers WENT or FINISHED.
 -- What FAULT, BLOCKED and open threads look like is computed in Reached.
 use mathlib.Core.Path.{_≡_, refl, sym, subst}
-use mathlib.Core.Bool.{Bool, true, false}
+use mathlib.Core.Bool.{Bool, true, false, _&&_}
 use mathlib.Core.List.{List}
 use Prim.Native.Nat.{ℕ, _≤_}
 use native.Mathlib.Omega.{arith}
-use lib.Dec.{eqb}
+use lib.Dec.{eqb, ltb}
 use lib.ListN.{length}
 use borrow.Author.Tests.{ltb-true, leb-true, not-true}
 use Rattle.meaning.specs.Numbers.{WENT, FINISHED, BLOCKED, SHAPE, THREAD, BUSY, LOGICAL, OPERATION, FAULT, LIMITS}
-use Rattle.meaning.specs.Limits.{inLimits}
+use Rattle.meaning.specs.Limits.{mostWord, inLimits}
 use Rattle.meaning.specs.Store.{Store}
-use Rattle.meaning.specs.Call.{Outcome, refused, left, reply, check, Entry, begin, step, calling, callStore}
+use Rattle.meaning.specs.Call.{Outcome, refused, left, reply, check, Entry, begin, step, stepping, calling, callStore}
+use Rattle.meaning.specs.Counting.{erases, WearCounts, finishesWith}
 use Rattle.meaning.specs.Step.{verdict}
 use Rattle.meaning.specs.Schedule.{Words, nextAct}
 use Rattle.meaning.proofs.Base.Words.{either-way, clash}
 use Rattle.meaning.proofs.Acts.{lands, unfaulted}
+use Rattle.meaning.proofs.AnyStore.{wear-counts, finishing-value}
 use Rattle.meaning.proofs.Progress.{no-fault, progress}
 use Rattle.store.specs.Layout.{size}
 use Rattle.store.specs.Area.{Bytes, encode, decode, wellFormed}
 use Rattle.store.specs.Calls.{formatArea, callArea, stepArea, Grown}
+use Rattle.store.proofs.Sound.{formed-stands}
 use Rattle.demands.specs.RefusalTables.{known, rests, operable, numbered, Refusals, UnfinishedValue, Open, CanStep, SameSizes}
 use Rattle.demands.proofs.Refusals.{given, refusal-tables, calling-each, call-refusing}
 use Rattle.demands.proofs.Bridge.{after-call, grown-good, grown-inv}
@@ -65,7 +71,25 @@ module _ (a : List ℕ) where
         step = λ t. call-refusing a (step t) .unfinished;
       }
 
+  pub finishing-values : (t : ℕ) → stepArea a t .number ≡ FINISHED → stepArea a t .value ≡ finishesWith (decode a .thread t)
+  finishing-values t =
+      either-way (wellFormed a)
+      (λ f. rw f (told-alike (stepping (decode a) t) (finishing-value (decode a) t (formed-stands a f t)))) (λ f. rw f (λ x. absurd (omega arith)))
+    where
+      told-alike : (o : Outcome) → (reply (λ s. s) (decode a) o .number ≡ FINISHED → reply (λ s. s) (decode a) o .value ≡ finishesWith (decode a .thread t)) →
+          reply encode a o .number ≡ FINISHED → reply encode a o .value ≡ finishesWith (decode a .thread t)
+      told-alike (refused number) x = x
+      told-alike (left number value s) x = x
+
 -- ---- what a call keeps, of any area of bytes
+
+-- the number is that of the call on the store
+pub number-decoded : (a : List ℕ) → wellFormed a ≡ true → (e : Entry) → callArea a e .number ≡ callStore (decode a) e .number
+number-decoded a f e = rw f (go (calling (decode a) e))
+  where
+    go : (o : Outcome) → given a o ≡ reply (λ s. s) (decode a) o .number
+    go (refused number) = refl
+    go (left number value s) = refl
 
 pub formed-kept : (a : List ℕ) → Bytes a → wellFormed a ≡ true → (e : Entry) → Words e →
     (wellFormed (callArea a e .after) ≡ true) × Bytes (callArea a e .after)
@@ -84,6 +108,27 @@ sizes-kept a h e w =
     (calling-each s (λ o. SameSizes (reply (λ s′. s′) s o .after) s) (λ _. same-sizes s)
     (λ _ _ _ t r f. record { threads = refl; numbers = refl; blocks = refl; distance = refl }) e))
     (λ f. rw f (same-sizes s))
+
+-- wear, of every block: up by one where the call is a step that went at U7 or L13 with the block in p, until the largest, and else kept
+pub wear-counted : (a : List ℕ) → Bytes a → (e : Entry) → Words e →
+    WearCounts (decode a) (decode (callArea a e .after)) e (callArea a e .number)
+wear-counted a h e w = either-way (wellFormed a) formed (λ f. rw f (malformed e))
+  where
+    formed : wellFormed a ≡ true → WearCounts (decode a) (decode (callArea a e .after)) e (callArea a e .number)
+    formed f =
+        rw (number-decoded a f e)
+        (subst (λ (s : Store). WearCounts (decode a) s e (callStore (decode a) e .number))
+        (sym (after-call a (record { bytes = h; formed = f }) e w .decoded)) (wear-counts (decode a) (formed-stands a f) e))
+
+    malformed : (e : Entry) → WearCounts (decode a) (decode a) e SHAPE
+    malformed (begin t op n c) m = refl
+    malformed (step t) m = refl
+
+-- so no call lowers it
+pub wear-never-falls : (a : List ℕ) → Bytes a → (e : Entry) → Words e → (m : ℕ) → decode a .wear m ≤ decode (callArea a e .after) .wear m
+wear-never-falls a h e w m =
+    rw (wear-counted a h e w m)
+    (either-way (erases (decode a) e (callArea a e .number) m && ltb (decode a .wear m) mostWord) (λ x. rw x (omega arith)) (λ x. rw x (omega arith)))
 
 -- ---- areas grown from fresh
 
@@ -104,14 +149,6 @@ grown-no-fault a g t x =
     clash (z .1 .1 .1)
     (unfaulted (nextAct r) (decode a) t r (verdict (decode a) t) (lands (nextAct r) (decode a) t r)
     (no-fault (decode a) (grown-inv a g) t (ltb-true t _ (z .1 .0)) (not-true _ (z .1 .1 .0))))
-
--- the number is that of the call on the store
-pub number-decoded : (a : List ℕ) → wellFormed a ≡ true → (e : Entry) → callArea a e .number ≡ callStore (decode a) e .number
-number-decoded a f e = rw f (go (calling (decode a) e))
-  where
-    go : (o : Outcome) → given a o ≡ reply (λ s. s) (decode a) o .number
-    go (refused number) = refl
-    go (left number value s) = refl
 
 pub grown-progress : (a : List ℕ) → Grown a → (t : ℕ) → Open a t → (u : ℕ) × Open a u × CanStep a u
 grown-progress a g t o =

@@ -97,7 +97,7 @@ module _ (s : Store) (R : Ranged s) (t : ℕ) (below : t < s .threads) where
         SoundThread (s .numbers) (s .blocks) r′
     goes-sound r′ e O B =
         let a = actAt (r .op) (r .line) in
-        let x = rw (busy, O .goes) at (everywhere stays stays-everywhere r (working-stands works busy)) in
+        let x = rw (busy, O .goes) at (everywhere stays stays-everywhere r (working-stands works)) in
         let next = ltb-true (r .line) (lastLine (r .op)) (and-left (ltb (r .line) (lastLine (r .op))) _ x) in
         let to = within-true 1 (lastLine (r .op)) (shape a .jump (r .line)) (and-right (ltb (r .line) (lastLine (r .op))) _ x) in
         inr (record {

@@ -8,7 +8,7 @@ use Prim.Native.Nat.{ℕ, _<_, _≤_}
 use native.Mathlib.Omega.{arith}
 use lib.Dec.{eqb, ltb}
 use lib.ListN.{length}
-use borrow.Author.Tests.{ltb-true, not-true, not-false, eqb-false}
+use borrow.Author.Tests.{not-true, not-false, eqb-false}
 use Rattle.meaning.specs.declared.Thread.{Thread}
 use Rattle.meaning.specs.declared.Effect.{Effect}
 use Rattle.meaning.specs.declared.Verdict.{Verdict}
@@ -26,8 +26,8 @@ use Rattle.meaning.proofs.Invariant.Keeping.{everywhere}
 use Rattle.store.specs.Layout.{size}
 use Rattle.store.specs.Calls.{callArea}
 use Rattle.store.specs.Area.{encode, decode, wellFormed}
-use Rattle.store.proofs.Sound.{wellFormed-sound, open-working, working-stands}
-use Rattle.demands.specs.RefusalTables.{known, rests, Past, lacking, barred, onLast, FormatRefusals, BeginRefusals, StepRefusals, Refusals}
+use Rattle.store.proofs.Sound.{formed-stands}
+use Rattle.demands.specs.RefusalTables.{rests, Past, lacking, barred, onLast, FormatRefusals, BeginRefusals, StepRefusals, Refusals}
 
 -- ---- the tables of refusals
 
@@ -179,11 +179,10 @@ module _ (a : List ℕ) where
     landing : Landing (verdict (decode a) t)
     landing = lands (nextAct r) (decode a) t r
 
-    ends-last : wellFormed a ≡ true → known a t ≡ true → not (rests a t) ≡ true → shape (nextAct r) .ends? ≡ onLast a t
-    ends-last f b o =
+    ends-last : wellFormed a ≡ true → not (rests a t) ≡ true → shape (nextAct r) .ends? ≡ onLast a t
+    ends-last f o =
         let busy : isIdle r ≡ false = not-true _ o in
-        let w = open-working (wellFormed-sound a .0 f .1 .thread t (ltb-true t _ b)) busy in
-        alike-is _ _ (rw busy at (everywhere ends-at-last refl r (working-stands w busy)))
+        alike-is _ _ (rw busy at (everywhere ends-at-last refl r (formed-stands a f t)))
 
   step-refusals : (t : ℕ) → StepRefusals a t
   step-refusals t =
@@ -217,12 +216,12 @@ module _ (a : List ℕ) where
             (given-later thread THREAD FAULT o₂ refl (given-later idle IDLE FAULT o₃ refl (says-fault t v (landing t))));
         went =
             given-under shape SHAPE WENT o₁ refl (λ f.
-            given-under thread THREAD WENT o₂ refl (λ b.
-            given-under idle IDLE WENT o₃ refl (λ o. says-went t v (landing t) (ends-last t f b o))));
+            given-under thread THREAD WENT o₂ refl (λ _.
+            given-under idle IDLE WENT o₃ refl (λ o. says-went t v (landing t) (ends-last t f o))));
         finished =
             given-under shape SHAPE FINISHED o₁ refl (λ f.
-            given-under thread THREAD FINISHED o₂ refl (λ b.
-            given-under idle IDLE FINISHED o₃ refl (λ o. says-finished t v (landing t) (ends-last t f b o))));
+            given-under thread THREAD FINISHED o₂ refl (λ _.
+            given-under idle IDLE FINISHED o₃ refl (λ o. says-finished t v (landing t) (ends-last t f o))));
       }
 
   pub refusal-tables : Refusals a

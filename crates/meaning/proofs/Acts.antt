@@ -20,7 +20,7 @@ use Rattle.meaning.specs.declared.Answer.the-variants.{Zero, C, Moved}
 use Rattle.meaning.specs.declared.Act.{Act}
 use Rattle.meaning.specs.declared.Act.the-variants.{Nothing, TakeH, ReleaseH, FinishH, TakeN, ReleaseN, FinishN, OwnHeaders, LetGoHeaders, Own, LetGo, GoIfMapped, GoIfUnmapped, EmptyIfUnmapped, GoIfFree, PickFree, Choose, ReadHeader, WriteHeaderN, WriteHeaderH, FreeHeader, EmptyContent, ReadContent, WriteContent, MapTo, Unmap}
 use Rattle.meaning.specs.declared.Thread.{Thread}
-use Rattle.meaning.specs.declared.Update.the-variants.{Keep}
+use Rattle.meaning.specs.declared.Update.the-variants.{Keep, Put}
 use Rattle.meaning.specs.declared.Effect.{Effect}
 use Rattle.meaning.specs.declared.Found.{Found}
 use Rattle.meaning.specs.declared.Found.the-variants.{Nobody, At}
@@ -46,9 +46,10 @@ pub data Sight : Type 0 where
   content-of-p : Sight
 
 pub record Shape : Type 0 where
-  -- its line ends the operation
+  -- its line ends the operation, with this answer
   pub ends? : Bool
-  -- it changes locks and owners alone; it may wear a block; it keeps the registers n and c
+  pub answers : Answer
+  -- it changes locks and owners alone; it wears p; it keeps the registers n and c
   pub quiet? : Bool
   pub wears? : Bool
   pub keepsN : Bool
@@ -57,45 +58,47 @@ pub record Shape : Type 0 where
   pub jump : ℕ → ℕ
   pub looks : List Sight
 
-abbrev shaped : Bool → Bool → Bool → Bool → Bool → (ℕ → ℕ) → List Sight → Shape
-shaped ends quiet wears n c jump looks =
-    record { ends? = ends; quiet? = quiet; wears? = wears; keepsN = n; keepsC = c; jump = jump; looks = looks }
+-- a line that goes on, with what it changes
+abbrev shaped : Bool → Bool → Bool → Bool → (ℕ → ℕ) → List Sight → Shape
+shaped quiet wears n c jump looks =
+    record { ends? = false; answers = Zero; quiet? = quiet; wears? = wears; keepsN = n; keepsC = c; jump = jump; looks = looks }
 
 abbrev onwards : Shape
-onwards = shaped false true false true true (λ line. line + 1) []
+onwards = shaped true false true true (λ line. line + 1) []
 
-abbrev stops : Shape
-stops = shaped true true false true true (λ line. line + 1) []
+abbrev stops : Answer → Shape
+stops a =
+    record { ends? = true; answers = a; quiet? = true; wears? = false; keepsN = true; keepsC = true; jump = λ line. line + 1; looks = [] }
 
 abbrev sees : List Sight → Shape
-sees looks = shaped false true false true true (λ line. line + 1) looks
+sees looks = shaped true false true true (λ line. line + 1) looks
 
 abbrev alters : Shape
-alters = shaped false false false true true (λ line. line + 1) []
+alters = shaped false false true true (λ line. line + 1) []
 
 abbrev frees : Shape
-frees = shaped false false true true true (λ line. line + 1) (all-wear ∷ [])
+frees = shaped false true true true (λ line. line + 1) (all-wear ∷ [])
 
 abbrev reads : Shape
-reads = shaped false true false true false (λ line. line + 1) (content-of-p ∷ [])
+reads = shaped true false true false (λ line. line + 1) (content-of-p ∷ [])
 
 abbrev jumps : ℕ → Shape
-jumps l = shaped false true false true true (λ line. l) (map-of-n ∷ [])
+jumps l = shaped true false true true (λ line. l) (map-of-n ∷ [])
 
 abbrev empties : ℕ → Shape
-empties l = shaped false true false true false (λ line. l) (map-of-n ∷ [])
+empties l = shaped true false true false (λ line. l) (map-of-n ∷ [])
 
 abbrev names : ℕ → Shape
-names l = shaped false true false false true (λ line. l) []
+names l = shaped true false false true (λ line. l) []
 
 abbrev pub shape : Act → Shape
 shape Nothing = onwards
 shape TakeH = onwards
 shape ReleaseH = onwards
-shape (FinishH a) = stops
+shape (FinishH a) = stops a
 shape TakeN = onwards
 shape ReleaseN = onwards
-shape (FinishN a) = stops
+shape (FinishN a) = stops a
 shape OwnHeaders = onwards
 shape LetGoHeaders = onwards
 shape (Own b) = onwards
@@ -172,13 +175,14 @@ pub record Onto (a : Act) (s : Store) (t : ℕ) (r r′ : Thread) (e : Effect) :
   pub n : If (shape a .keepsN) (r′ .n ≡ r .n)
   pub c : If (shape a .keepsC) (r′ .c ≡ r .c)
   pub quiet : If (shape a .quiet?) (Quiet e)
-  pub wear : If (not (shape a .wears?)) (e .wear ≡ Keep)
+  pub wear : e .wear ≡ cond (shape a .wears?) (Put (r .p) (worn (s .wear (r .p)))) Keep
   pub bounded : (most : ℕ) → NearBounded s t r most → Bounded s most r′ e
 
 -- and ends with a value
 pub record Stops (a : Act) (s : Store) (t : ℕ) (r : Thread) (value : ℕ) (e : Effect) : Type 0 where
   pub ready : Ready s t r a
   pub ends : shape a .ends? ≡ true
+  pub answers : value ≡ answer (shape a .answers) r
   pub wear : e .wear ≡ Keep
   pub low : (most : ℕ) → NearBounded s t r most → value ≤ most
   pub bounded : (most : ℕ) → NearBounded s t r most → Bounded s most idle e

@@ -10,6 +10,7 @@
 pub mod Base
 pub mod Invariant
 pub mod Acts
+pub mod AnyStore
 pub mod Lines
 pub mod Progress
 pub mod EitherOrder

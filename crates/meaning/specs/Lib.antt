@@ -9,6 +9,7 @@ pub mod Choosing
 pub mod Step
 pub mod Needs
 pub mod Call
+pub mod Counting
 pub mod Manager
 pub mod Schedule
 pub mod Demands

@@ -1,6 +1,6 @@
 -- What a line needs, and what it waits for: 01, the paragraph "A line's needs", and the row BLOCKED of the table of numbers, for each act.
--- `perform` of Step doesn't use this page. That FAULT and BLOCKED come exactly where it says is proved of `perform` (proofs/Acts) and of
--- areas (`faults-exactly` and `blocks-exactly` of the crate demands).
+-- `perform` of Step doesn't use this page. That FAULT and BLOCKED come exactly where it says is proved of `perform` (proofs/Acts), and of
+-- areas (`refusals` of the crate demands).
 use mathlib.Core.Bool.{Bool, true, false, not, _&&_}
 use mathlib.Core.List.{List, [], _∷_}
 use Prim.Native.Nat.{ℕ}

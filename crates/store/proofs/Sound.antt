@@ -17,7 +17,7 @@ use Rattle.meaning.specs.Store.{Store, idle}
 use Rattle.meaning.specs.Programs.{WRITE, LEVEL, lastLine}
 use Rattle.meaning.specs.Step.{worn}
 use Rattle.meaning.specs.Call.{isIdle}
-use Rattle.meaning.proofs.Base.Words.{clash, and-left, and-right, within-true}
+use Rattle.meaning.proofs.Base.Words.{either-way, clash, and-left, and-right, within-true}
 use Rattle.meaning.proofs.Invariant.{Stands}
 use Rattle.meaning.proofs.Acts.{NearBounded}
 use Rattle.store.specs.Layout.{tAt, nAt, pAt, dAt, size, largest}
@@ -240,9 +240,9 @@ pub open-working : {n p : ℕ} {r : Thread} → SoundThread n p r → isIdle r �
 open-working (inl e) busy = clash refl (rw e at busy)
 open-working (inr w) busy = w
 
-pub working-stands : {n p : ℕ} {r : Thread} → Working n p r → isIdle r ≡ false → Stands r
-working-stands {r = r} w busy =
-    let some : r .op ≡ 0 → ⊥ = eqb-false (r .op) 0 busy in
+pub working-stands : {n p : ℕ} {r : Thread} → Working n p r → Stands r
+working-stands {r = r} w =
+    let some : r .op ≡ 0 → ⊥ = λ e. (let low = w .line .0 in let high : r .line ≤ lastLine 0 = rw e at (w .line .1) in omega arith) in
     let op : within WRITE LEVEL (r .op) ≡ true = rw (le-leb WRITE (r .op) (omega arith)) (le-leb (r .op) LEVEL (w .operation)) in
     let line : within 1 (lastLine (r .op)) (r .line) ≡ true =
     rw (le-leb 1 (r .line) (w .line .0)) (le-leb (r .line) (lastLine (r .op)) (w .line .1)) in
@@ -278,6 +278,15 @@ wellFormed-sound a = (
   λ e. (eqb-true _ _ (and-left (fitted a) (sound (decode a)) e), sound-facts (decode a) (and-right (fitted a) (sound (decode a)) e)),
   λ f. and-both (eq-eqb _ _ (f .0)) (facts-sound (decode a) (f .1)),
 )
+
+-- its threads stand at lines of their operations
+pub formed-stands : (a : List ℕ) → wellFormed a ≡ true → (t : ℕ) → Stands (decode a .thread t)
+formed-stands a f t =
+    either-way (ltb t (word a tAt)) (λ b. sound (wellFormed-sound a .0 f .1 .thread t (ltb-true t (word a tAt) b))) (λ b. inl (rw b))
+  where
+    sound : SoundThread (word a nAt) (word a pAt) (decode a .thread t) → Stands (decode a .thread t)
+    sound (inl e) = inl e
+    sound (inr w) = working-stands w
 
 -- an area's sizes, read
 pub record Head (a : List ℕ) (t n p d : ℕ) : Type 0 where

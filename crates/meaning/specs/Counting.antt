@@ -1,0 +1,32 @@
+-- Wear and answers, said without `perform`: 01, U7 and L13 "wear of p up by one", "Wear at 4,294,967,295 stays there", and what an operation
+-- finishes with. Of every store, grown from fresh or made by hand.
+use mathlib.Core.Path.{_≡_}
+use mathlib.Core.Bool.{Bool, false, cond, _&&_, _||_}
+use Prim.Native.Nat.{ℕ, _+_}
+use lib.Dec.{eqb, ltb}
+use Rattle.meaning.specs.declared.Thread.{Thread}
+use Rattle.meaning.specs.Numbers.{WENT}
+use Rattle.meaning.specs.Limits.{mostWord}
+use Rattle.meaning.specs.Store.{Store}
+use Rattle.meaning.specs.Holding.{free}
+use Rattle.meaning.specs.Programs.{READ, UNMAP, LEVEL}
+use Rattle.meaning.specs.Call.{Entry, begin, step}
+
+-- U7 and L13, the lines at which a thread frees the block in register p
+abbrev pub freeing : Thread → Bool
+freeing r = eqb (r .op) UNMAP && eqb (r .line) 7 || eqb (r .op) LEVEL && eqb (r .line) 13
+
+-- the call that entry e makes of s, and that gives this number, erases block m
+abbrev pub erases : Store → Entry → ℕ → ℕ → Bool
+erases s (begin t op n c) number m = false
+erases s (step t) number m = eqb number WENT && (freeing (s .thread t) && eqb (s .thread t .p) m)
+
+-- each block's wear is up by one where the call erases the block, unless it is the largest word, and else as it was
+abbrev pub WearCounts : Store → Store → Entry → ℕ → Type 0
+WearCounts s s′ e number =
+    (m : ℕ) → s′ .wear m ≡ cond (erases s e number m && ltb (s .wear m) mostWord) (s .wear m + 1) (s .wear m)
+
+-- what the operation of a thread at its last line finishes with: "finish with c" at R6, "with 1 if h is not free, else 0" at L18, and
+-- "finishing values of write and unmap are 0"
+abbrev pub finishesWith : Thread → ℕ
+finishesWith r = cond (eqb (r .op) READ) (r .c) (cond (eqb (r .op) LEVEL) (cond (free (r .h)) 0 1) 0)

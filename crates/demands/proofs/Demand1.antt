@@ -24,10 +24,9 @@ use Rattle.meaning.specs.Limits.{mostWord, inLimits}
 use Rattle.meaning.specs.Store.{Store}
 use Rattle.meaning.specs.Call.{Outcome, refused, left, reply, check, Entry, begin, step, stepping, calling, callStore}
 use Rattle.meaning.specs.Counting.{erases, WearCounts, finishesWith}
-use Rattle.meaning.specs.Step.{verdict}
 use Rattle.meaning.specs.Schedule.{Words, nextAct}
 use Rattle.meaning.proofs.Base.Words.{either-way, clash}
-use Rattle.meaning.proofs.Acts.{lands, unfaulted}
+use Rattle.meaning.proofs.Acts.{unfaulted}
 use Rattle.meaning.proofs.AnyStore.{wear-counts, finishing-value}
 use Rattle.meaning.proofs.Progress.{no-fault, progress}
 use Rattle.store.specs.Layout.{size}
@@ -147,7 +146,7 @@ grown-no-fault a g t x =
     let z = refusals a .step t .fault .0 x in
     let r = decode a .thread t in
     clash (z .1 .1 .1)
-    (unfaulted (nextAct r) (decode a) t r (verdict (decode a) t) (lands (nextAct r) (decode a) t r)
+    (unfaulted (nextAct r) (decode a) t r
     (no-fault (decode a) (grown-inv a g) t (ltb-true t _ (z .1 .0)) (not-true _ (z .1 .1 .0))))
 
 pub grown-progress : (a : List ℕ) → Grown a → (t : ℕ) → Open a t → (u : ℕ) × Open a u × CanStep a u

@@ -8,12 +8,11 @@
 use mathlib.Core.Path.{_≡_, refl, sym}
 use mathlib.Core.Bool.{Bool, true, false, not, cond, _&&_, and-false}
 use mathlib.Core.List.{List, [], _∷_}
-use mathlib.Core.Logic.{_⊎_, inl, inr}
+use mathlib.Core.Logic.{_⊎_, inl, inr, _↔_}
 use Prim.Native.Nat.{ℕ, zero, suc, _+_, _<_, _≤_}
 use native.Mathlib.Omega.{arith}
 use lib.Dec.{eqb, ltb}
-use borrow.Author.Tests.{ltb-true, lt-ltb, le-ltb, eqb-true, eqb-false}
-use Rattle.meaning.specs.declared.Reg.{Reg}
+use borrow.Author.Tests.{lt-ltb, le-ltb, eqb-true, eqb-false}
 use Rattle.meaning.specs.declared.Reg.the-variants.{P, Q}
 use Rattle.meaning.specs.declared.Answer.{Answer}
 use Rattle.meaning.specs.declared.Answer.the-variants.{Zero, C, Moved}
@@ -28,8 +27,8 @@ use Rattle.meaning.specs.declared.Verdict.{Verdict}
 use Rattle.meaning.specs.declared.Verdict.the-variants.{Blocked, Fault, Go, Done}
 use Rattle.meaning.specs.Table.{every}
 use Rattle.meaning.specs.Store.{Store, idle}
-use Rattle.meaning.specs.Holding.{free, heldBy, named}
-use Rattle.meaning.specs.Choosing.{lowestFree, best, toBlock, leastWorn, fromBlock}
+use Rattle.meaning.specs.Holding.{free, heldBy}
+use Rattle.meaning.specs.Choosing.{best, leastWorn, fromBlock}
 use Rattle.meaning.specs.Step.{block, worn, answer, touches, heads, perform}
 use Rattle.meaning.specs.Needs.{Need, met, allMet, Asks, takes-H, takes-N, needs, no-line, asks, fails, waits}
 use Rattle.meaning.proofs.Base.Words.{either-way, clash, and-left, and-right, named-below}
@@ -297,6 +296,36 @@ lands (MapTo P) s t r = search (inl, arith)
 lands (MapTo Q) s t r = search (inl, arith)
 lands Unmap s t r = search (inl, arith)
 
+-- so FAULT comes exactly where a need of specs/Needs fails, and BLOCKED exactly where a take's lock isn't free
+module _ (a : Act) (s : Store) (t : ℕ) (r : Thread) where
+  pub faults-exactly : (perform a s t r ≡ Fault) ↔ (fails s t r (asks a) ≡ true)
+  faults-exactly = go (perform a s t r) (lands a s t r)
+    where
+      go : (v : Verdict) → Lands a s t r v → (v ≡ Fault) ↔ (fails s t r (asks a) ≡ true)
+      go Blocked l = (λ x. absurd (let z : _≡_ {A = ℕ} 0 1 = cc in omega arith), λ f. clash f (l .0))
+      go Fault l = (λ x. l .0, λ f. refl)
+      go (Go r′ e) l = (λ x. absurd (let z : _≡_ {A = ℕ} 0 1 = cc in omega arith), λ f. clash f (l .ready .met))
+      go (Done value e) l = (λ x. absurd (let z : _≡_ {A = ℕ} 0 1 = cc in omega arith), λ f. clash f (l .ready .met))
+
+  pub blocks-exactly : (perform a s t r ≡ Blocked) ↔ (waits s r (asks a) ≡ true)
+  blocks-exactly = go (perform a s t r) (lands a s t r)
+    where
+      go : (v : Verdict) → Lands a s t r v → (v ≡ Blocked) ↔ (waits s r (asks a) ≡ true)
+      go Blocked l = (λ x. l .1, λ f. refl)
+      go Fault l = (λ x. absurd (let z : _≡_ {A = ℕ} 0 1 = cc in omega arith), λ f. clash f (l .1))
+      go (Go r′ e) l = (λ x. absurd (let z : _≡_ {A = ℕ} 0 1 = cc in omega arith), λ f. clash f (l .ready .unblocked))
+      go (Done value e) l = (λ x. absurd (let z : _≡_ {A = ℕ} 0 1 = cc in omega arith), λ f. clash f (l .ready .unblocked))
+
+  pub unfaulted : (perform a s t r ≡ Fault → ⊥) → fails s t r (asks a) ≡ false
+  unfaulted x = either-way (fails s t r (asks a)) (λ f. absurd (x (faults-exactly .1 f))) (λ f. f)
+
+  pub was-ready : (perform a s t r ≡ Blocked → ⊥) → (perform a s t r ≡ Fault → ⊥) → Ready s t r a
+  was-ready b x =
+      record {
+        met = unfaulted x;
+        unblocked = either-way (waits s r (asks a)) (λ f. absurd (b (blocks-exactly .1 f))) (λ f. f);
+      }
+
 -- it takes a lock; who waits is about to
 abbrev pub isTake : Asks → Bool
 isTake takes-H = true
@@ -309,21 +338,6 @@ waits-take s r takes-H w = refl
 waits-take s r takes-N w = refl
 waits-take s r (needs l) w = w
 waits-take s r no-line w = w
-
--- who is neither BLOCKED nor meets FAULT was ready
-pub was-ready : (a : Act) (s : Store) (t : ℕ) (r : Thread) (v : Verdict) → Lands a s t r v → (v ≡ Blocked → ⊥) → (v ≡ Fault → ⊥) →
-    Ready s t r a
-was-ready a s t r Blocked l b x = absurd (b refl)
-was-ready a s t r Fault l b x = absurd (x refl)
-was-ready a s t r (Go r′ e) l b x = l .ready
-was-ready a s t r (Done value e) l b x = l .ready
-
--- who meets no FAULT has what it needs
-pub unfaulted : (a : Act) (s : Store) (t : ℕ) (r : Thread) (v : Verdict) → Lands a s t r v → (v ≡ Fault → ⊥) → fails s t r (asks a) ≡ false
-unfaulted a s t r Blocked l x = l .0
-unfaulted a s t r Fault l x = absurd (x refl)
-unfaulted a s t r (Go r′ e) l x = l .ready .met
-unfaulted a s t r (Done value e) l x = l .ready .met
 
 -- ---- the second walk
 

@@ -1,8 +1,8 @@
 -- Of any store, grown from fresh or made by hand, whose threads stand at lines of their operations: what a call does to wear, and what an
 -- operation finishes with (specs/Counting).
 -- Assumes nothing.
-use mathlib.Core.Path.{_≡_, refl, sym, ap, _∙_}
-use mathlib.Core.Bool.{Bool, true, false, not, cond, _&&_, _||_}
+use mathlib.Core.Path.{_≡_, refl, _∙_}
+use mathlib.Core.Bool.{Bool, true, not, cond, _&&_, _||_}
 use Prim.Native.Nat.{ℕ, _+_}
 use native.Mathlib.Omega.{arith}
 use lib.Dec.{eqb, ltb}
@@ -10,7 +10,6 @@ use borrow.Author.Tests.{eqb-true, not-true}
 use Rattle.meaning.specs.declared.Answer.{Answer}
 use Rattle.meaning.specs.declared.Answer.the-variants.{Zero, C, Moved}
 use Rattle.meaning.specs.declared.Thread.{Thread}
-use Rattle.meaning.specs.declared.Effect.{Effect}
 use Rattle.meaning.specs.declared.Verdict.{Verdict}
 use Rattle.meaning.specs.declared.Verdict.the-variants.{Blocked, Fault, Go, Done}
 use Rattle.meaning.specs.Numbers.{WENT, FINISHED}
@@ -19,8 +18,8 @@ use Rattle.meaning.specs.Limits.{mostWord}
 use Rattle.meaning.specs.Store.{Store}
 use Rattle.meaning.specs.Programs.{READ, LEVEL, actAt}
 use Rattle.meaning.specs.Step.{worn, answer, verdict}
-use Rattle.meaning.specs.Call.{Outcome, refused, left, reply, told, Entry, begin, step, calling, callStore}
-use Rattle.meaning.specs.Counting.{freeing, erases, WearCounts, finishesWith}
+use Rattle.meaning.specs.Call.{Outcome, reply, told, Entry, begin, step, calling, callStore}
+use Rattle.meaning.specs.Counting.{freeing, WearCounts, finishesWith}
 use Rattle.meaning.proofs.Base.Words.{either-way, clash, and-left, and-right, alike, alike-is}
 use Rattle.meaning.proofs.Base.Schedules.{by-begin, by-step, refused-not}
 use Rattle.meaning.proofs.Invariant.{Stands}

@@ -23,14 +23,14 @@ use Rattle.meaning.specs.Numbers.{WENT, FINISHED}
 use Rattle.meaning.specs.Store.{Store, idle}
 use Rattle.meaning.specs.Holding.{free, by, heldBy}
 use Rattle.meaning.specs.Programs.{actAt}
-use Rattle.meaning.specs.Step.{perform, verdict, become, put, apply}
+use Rattle.meaning.specs.Step.{verdict, become, put, apply}
 use Rattle.meaning.specs.Needs.{Asks, takes-H, takes-N, needs, no-line, asks, waits}
 use Rattle.meaning.specs.Call.{Reply, step, callStore, told, reply, isIdle}
 use Rattle.meaning.proofs.Base.Words.{either-way, by-held, clash, and-left, and-right, or-way, by-other, held-once, held-not-free, upd-same, upd-other, upd-each}
 use Rattle.meaning.proofs.Base.Schedules.{replyOf, by-step}
 use Rattle.meaning.proofs.Invariant.{takesH, takesN, takesLock, holdsH, ownsHeaders, ownsP, Passes, takes, gives-up, Becomes, Puts, Guards, GuardsMap, GuardsHeader, GuardsContent, GuardsWear, Inv}
-use Rattle.meaning.proofs.Invariant.Keeping.{reads-map, everyLine, everywhere, standing, p-owned, Moves, moves-inv, word-kept, entry-kept, map-kept, header-kept, wear-kept, content-kept}
-use Rattle.meaning.proofs.Acts.{Sight, map-of-n, headers, all-wear, content-of-p, shape, Ready, lands, was-ready, unfaulted, un-not, Same, SameSights, same-deed}
+use Rattle.meaning.proofs.Invariant.Keeping.{reads-map, everyLine, everywhere, standing, p-owned, Moves, moves-inv, map-kept, header-kept, wear-kept, content-kept}
+use Rattle.meaning.proofs.Acts.{Sight, map-of-n, headers, all-wear, content-of-p, shape, Ready, was-ready, unfaulted, un-not, Same, SameSights, same-deed}
 use Rattle.meaning.proofs.Lines.{Fine}
 use Rattle.meaning.proofs.Lines.EveryLine.{fine}
 use Rattle.meaning.proofs.Progress.{no-fault, CanStep}
@@ -91,19 +91,7 @@ entry-free-kept about t (Put i w) f x k =
 
 module _ (s : Store) (I : Inv s) (t : ℕ) (r′ : Thread) (e : Effect) (M : Moves s t (s .thread t) r′ e) (u : ℕ)
     (apart : t ≡ u → ⊥) (others : sameTake (s .thread t) (s .thread u) ≡ false) where
-  -- after t's step u has what it had, and what it looks at is what it was
-  lock-alike : heldBy u (become (e .lock) (s .lock)) ≡ heldBy u (s .lock)
-  lock-alike = word-kept (takesH (s .thread t) ≡ true) t u apart (e .lock) (s .lock) (M .guards .lock)
-
-  owner-alike : heldBy u (become (e .owner) (s .owner)) ≡ heldBy u (s .owner)
-  owner-alike = word-kept Unit t u apart (e .owner) (s .owner) (M .guards .owner)
-
-  locks-alike : (k : ℕ) → heldBy u (put (e .locks) (s .locks) k) ≡ heldBy u (s .locks k)
-  locks-alike = entry-kept (λ k. takesLock (s .thread t) k ≡ true) t u apart (e .locks) (s .locks) (M .guards .locks)
-
-  own-alike : (m : ℕ) → heldBy u (put (e .own) (s .own) m) ≡ heldBy u (s .own m)
-  own-alike = entry-kept (λ m. Unit) t u apart (e .own) (s .own) (M .guards .own)
-
+  -- after t's step what u looks at is what it was
   map-alike : reads-map (s .thread u) ≡ true → put (e .map) (s .map) (s .thread u .n) ≡ s .map (s .thread u .n)
   map-alike = map-kept s I t (s .thread t) e (M .guards) u apart
 
@@ -158,10 +146,10 @@ module _ (s : Store) (I : Inv s) (t : ℕ) (r′ : Thread) (e : Effect) (M : Mov
       let r = s .thread u in
       let a = actAt (r .op) (r .line) in
       let after = apply s t r′ e in
-      let ready = was-ready a s u r (perform a s u r) (lands a s u r) goes (no-fault s I u u-below busy) in
+      let ready = was-ready a s u r goes (no-fault s I u u-below busy) in
       let still : Ready after u r a = record {
         met =
-            unfaulted a after u r (perform a after u r) (lands a after u r)
+            unfaulted a after u r
             (λ f. no-fault after (moves-inv s I t r′ e M below) u u-below (rw other busy) (rw other f));
         unblocked =
             still-unblocked (asks a) (everywhere (λ op line. taking (standing op line) (asks (actAt op line))) takes-everywhere r (I .stands u))

@@ -9,7 +9,7 @@ use native.Mathlib.Omega.{arith}
 use lib.Dec.{leb, ltb, eqb}
 use lib.ListN.{length}
 use borrow.Author.Count.{below-more}
-use borrow.Author.Tests.{leb-true, le-leb, ltb-true, lt-ltb, eqb-true, eqb-false, eq-eqb, ne-eqb}
+use borrow.Author.Tests.{leb-true, le-leb, ltb-true, lt-ltb, eqb-true, eq-eqb, ne-eqb}
 use Rattle.meaning.specs.declared.Thread.{Thread}
 use Rattle.meaning.specs.Table.{every}
 use Rattle.meaning.specs.Limits.{least, mostThreads, mostNumbers, mostBlocks, mostDistance, within, inLimits}

@@ -28,7 +28,7 @@ use Rattle.meaning.proofs.Base.Words.{same, either-way, and-left, and-r
 use Rattle.meaning.proofs.Base.Schedules.{replyOf}
 use Rattle.meaning.proofs.Invariant.{holdsH, holdsLock, ownsHeaders, ownsBlock, takesH, takesLock, Passes, takes, gives-up, Becomes, Puts, Guards, Inv}
 use Rattle.meaning.proofs.Invariant.Keeping.{everywhere}
-use Rattle.meaning.proofs.Acts.{Sight, map-of-n, headers, all-wear, content-of-p, shape, Ready, lands, was-ready, un-not, SameSights, same-deed}
+use Rattle.meaning.proofs.Acts.{Sight, map-of-n, headers, all-wear, content-of-p, shape, was-ready, un-not, SameSights, same-deed}
 use Rattle.meaning.proofs.Lines.EveryLine.{idle-is}
 use Rattle.meaning.proofs.Progress.{inv-call, no-fault}
 use Rattle.meaning.proofs.EitherOrder.{Going, left-by, going-reply, going-moves, goes-unblocked}
@@ -106,7 +106,7 @@ module _ (s : Store) (t : ℕ) (r : Thread) where
   perform-alone : (a : Act) → (perform a s t r ≡ Blocked → ⊥) → (perform a s t r ≡ Fault → ⊥) →
       perform a (alone t s) t r ≡ perform a s t r
   perform-alone a b x =
-      let ready = was-ready a s t r (perform a s t r) (lands a s t r) b x in
+      let ready = was-ready a s t r b x in
       same-deed s (alone t s) t r refl refl a (sights-alone (shape a .looks)) ready
       (record { met = fails-alone (asks a) (ready .met); unblocked = waits-alone (asks a) (ready .unblocked) })
 

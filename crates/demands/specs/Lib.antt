@@ -2,4 +2,5 @@
 pub mod History
 pub mod RefusalTables
 pub mod SameLock
+pub mod Needs
 pub mod Reached

@@ -1,5 +1,6 @@
 -- Computed: what the demands speak of is there.
---  * needs-fault: an area made by hand meets FAULT at each line whose need it lacks; with that one word mended, the line goes.
+--  * needs-fault: each line goes on an area made by hand that has what the line needs, and meets FAULT (a take: BLOCKED) where one thing of it is
+--    lacking; both where all else is free and where all else is the thread's.
 --  * meetings-come, meetings-grown: areas grown from fresh where two threads are open at once. In the middle of a write and of a levelling
 --    that moves a block they step in either order, to the same bytes; about to take the same lock, whoever comes second is BLOCKED, and
 --    the bytes are others.
@@ -17,7 +18,7 @@ use native.Mathlib.Omega.{arith}
 use lib.Dec.{eqb, leb}
 use lib.ListN.{replicate}
 use borrow.Author.Tests.{leb-true, eqb-true}
-use Rattle.meaning.specs.Numbers.{WENT, FAULT}
+use Rattle.meaning.specs.Numbers.{WENT}
 use Rattle.meaning.specs.Limits.{mostWord}
 use Rattle.meaning.specs.Call.{Entry, begin, step}
 use Rattle.meaning.specs.Schedule.{formatted, run}
@@ -25,13 +26,14 @@ use Rattle.meaning.proofs.Base.Words.{and-left, and-right}
 use Rattle.store.specs.Layout.{size}
 use Rattle.store.specs.Area.{Bytes, wellFormed}
 use Rattle.store.specs.Calls.{format, callArea, Grown}
-use Rattle.demands.specs.Reached.{met, needs, Meeting, formed, reached, meet, meetings, Each, overlap, overtaking, overtaken, slipping, slipped, contents, reusing, reused}
+use Rattle.demands.specs.NeedSamples.{needs, given, asked}
+use Rattle.demands.specs.Reached.{Meeting, formed, reached, meet, meetings, Each, overlap, overtaking, overtaken, slipping, slipped, contents, reusing, reused}
 use Rattle.demands.specs.History.{AllWords}
 use Rattle.demands.proofs.Bridge.{run-grown}
 
-pub needs-fault : map met needs ≡ map (λ x. record { lacking = FAULT; having = true }) needs
+pub needs-fault : (given 0 ≡ asked) × (given 1 ≡ asked)
 unfolding needs wellFormed
-needs-fault = refl
+needs-fault = (refl, refl)
 
 pub meetings-come : map (λ m. meet (reached m)) meetings ≡ map (λ m. m .comes) meetings
 unfolding meetings wellFormed

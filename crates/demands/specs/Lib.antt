@@ -3,4 +3,5 @@ pub mod History
 pub mod RefusalTables
 pub mod SameLock
 pub mod LastLock
+pub mod NeedSamples
 pub mod Reached

@@ -1,99 +1,19 @@
--- What the demands' theorems are not empty of, as data: areas made by hand whose step meets FAULT, one for each need of each act, areas
--- grown from fresh at which two threads meet, operations that overlap, and a block that is written again.
+-- What the demands' theorems are not empty of, as data: areas grown from fresh at which two threads meet, operations that overlap, and a
+-- block that is written again.
 use mathlib.Core.Bool.{Bool, true, false, _&&_}
 use mathlib.Core.List.{List, [], _∷_}
-use Prim.Native.Nat.{ℕ, zero, suc, _+_}
-use lib.ListN.{replicate, set}
-use lib.Dec.{eqb, leb}
+use Prim.Native.Nat.{ℕ, zero, suc}
+use lib.ListN.{replicate}
+use lib.Dec.{eqb}
 use Rattle.meaning.specs.Numbers.{WENT, FINISHED, BLOCKED}
 use Rattle.meaning.specs.Programs.{WRITE, READ, UNMAP, LEVEL}
 use Rattle.meaning.specs.Call.{Reply, Entry, begin, step}
 use Rattle.meaning.specs.Schedule.{Operation, operation, Answered, run, order, finishedBy, steps}
 use Rattle.meaning.specs.Demands.{one-by-one}
-use Rattle.store.specs.Layout.{lockAt, ownerAt, locksAt, blocksAt, size}
-use Rattle.store.specs.Area.{bytes, decode}
+use Rattle.store.specs.Layout.{size}
+use Rattle.store.specs.Area.{decode}
 use Rattle.store.specs.Calls.{formatArea, callArea, stepArea}
 use Rattle.demands.specs.RefusalTables.{rests}
-
--- ---- needs that are not met
-
--- an area of one thread, one number and two blocks, made by hand: thread 0 stands at a line with registers 0; then the words of H,
--- headers' owner, the number's lock, block 0's header and owner, and block 1's header
-abbrev pub made : ℕ → ℕ → ℕ → ℕ → ℕ → ℕ → ℕ → ℕ → List ℕ
-made op line lock owner locks header own header′ =
-    1 ∷ 1 ∷ 2 ∷ 1 ∷ lock ∷ owner  -- T, N, P, D, header lock, headers' owner
-    ∷ op ∷ line ∷ 0 ∷ 0 ∷ 0 ∷ 0 ∷ 0  -- thread 0
-    ∷ 0 ∷ locks  -- number 0 is unmapped; its lock
-    ∷ header ∷ 0 ∷ 0 ∷ own  -- block 0
-    ∷ header′ ∷ 0 ∷ 0 ∷ 0  -- block 1
-    ∷ []
-
--- where the two words of block 0 stand, and the lock of number 0
-abbrev pub headerAt : ℕ
-headerAt = blocksAt 1 1
-
-abbrev pub ownAt : ℕ
-ownAt = blocksAt 1 1 + 3
-
-abbrev pub lockOfAt : ℕ
-lockOfAt = locksAt 1 1
-
--- an area that lacks what a line needs in one word, and what that word is where the line has it
-pub record Need : Type 0 where
-  pub words : List ℕ
-  pub at : ℕ
-  pub has : ℕ
-
--- the numbers of thread 0's step where the need isn't met and where it is
-pub record Met : Type 0 where
-  pub lacking : ℕ
-  pub having : Bool
-
-abbrev pub met : Need → Met
-met x =
-    record {
-      lacking = stepArea (bytes (x .words)) 0 .number;
-      having = leb (stepArea (bytes (set (x .words) (x .at) (x .has))) 0 .number) FINISHED;
-    }
-
-abbrev pub lacks : List ℕ → ℕ → ℕ → Need
-lacks words at has = record { words = words; at = at; has = has }
-
-unfoldable pub needs : List Need
-needs =
-    -- releasing a lock needs to hold it
-    lacks (made WRITE 12 0 0 0 0 0 0) lockAt 1  -- W12
-    ∷ lacks (made UNMAP 11 0 0 0 0 0 0) lockAt 1  -- U11
-    ∷ lacks (made UNMAP 10 0 0 0 0 0 0) lockOfAt 1  -- U10
-    ∷ lacks (made READ 6 0 0 0 0 0 0) lockOfAt 1  -- R6
-    -- owning needs no owner
-    ∷ lacks (made WRITE 4 0 1 0 0 0 0) ownerAt 0  -- W4
-    ∷ lacks (made WRITE 6 0 0 0 0 1 0) ownAt 0  -- W6
-    -- letting go needs ownership
-    ∷ lacks (made WRITE 11 0 0 0 0 0 0) ownerAt 1  -- W11
-    ∷ lacks (made WRITE 9 0 0 0 0 0 0) ownAt 1  -- W9
-    -- content needs the block owned, and its header not free
-    ∷ lacks (made WRITE 8 0 0 0 1 0 0) ownAt 1  -- W8
-    ∷ lacks (made WRITE 8 0 0 0 0 1 0) headerAt 1  -- W8
-    ∷ lacks (made READ 4 0 0 0 1 0 0) ownAt 1  -- R4
-    ∷ lacks (made READ 4 0 0 0 0 1 0) headerAt 1  -- R4
-    ∷ lacks (made WRITE 14 0 0 0 1 0 0) ownAt 1  -- W14
-    ∷ lacks (made WRITE 14 0 0 0 0 1 0) headerAt 1  -- W14
-    -- writing a header needs headers and block
-    ∷ lacks (made WRITE 7 0 0 0 0 1 0) ownerAt 1  -- W7
-    ∷ lacks (made WRITE 7 0 1 0 0 0 0) ownAt 1  -- W7
-    ∷ lacks (made LEVEL 10 0 0 0 0 1 0) ownerAt 1  -- L10
-    ∷ lacks (made LEVEL 10 0 1 0 0 0 0) ownAt 1  -- L10
-    ∷ lacks (made UNMAP 7 0 0 0 0 1 0) ownerAt 1  -- U7
-    ∷ lacks (made UNMAP 7 0 1 0 0 0 0) ownAt 1  -- U7
-    -- L4, W5 and L3 need headers
-    ∷ lacks (made LEVEL 4 0 0 0 0 0 0) ownerAt 1  -- L4
-    ∷ lacks (made WRITE 5 0 0 0 0 0 0) ownerAt 1  -- W5
-    ∷ lacks (made LEVEL 3 0 0 0 0 0 0) ownerAt 1  -- L3
-    -- W5 and L3 need some free block
-    ∷ lacks (made WRITE 5 0 1 0 1 0 1) headerAt 0  -- W5
-    ∷ lacks (made LEVEL 3 0 1 0 1 0 1) headerAt 0  -- L3
-    ∷ []
 
 -- ---- two threads that meet
 

@@ -6,6 +6,7 @@ pub mod Store
 pub mod Holding
 pub mod Programs
 pub mod Choosing
+pub mod Chosen
 pub mod Step
 pub mod Needs
 pub mod Call

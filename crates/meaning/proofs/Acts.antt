@@ -19,6 +19,7 @@ use Rattle.meaning.specs.declared.Answer.the-variants.{Zero, C, Moved}
 use Rattle.meaning.specs.declared.Act.{Act}
 use Rattle.meaning.specs.declared.Act.the-variants.{Nothing, TakeH, ReleaseH, FinishH, TakeN, ReleaseN, FinishN, OwnHeaders, LetGoHeaders, Own, LetGo, GoIfMapped, GoIfUnmapped, EmptyIfUnmapped, GoIfFree, PickFree, Choose, ReadHeader, WriteHeaderN, WriteHeaderH, FreeHeader, EmptyContent, ReadContent, WriteContent, MapTo, Unmap}
 use Rattle.meaning.specs.declared.Thread.{Thread}
+use Rattle.meaning.specs.declared.Update.{Update}
 use Rattle.meaning.specs.declared.Update.the-variants.{Keep, Put}
 use Rattle.meaning.specs.declared.Effect.{Effect}
 use Rattle.meaning.specs.declared.Found.{Found}
@@ -44,51 +45,61 @@ pub data Sight : Type 0 where
   all-wear : Sight
   content-of-p : Sight
 
+-- which block it wears
+pub data Wears : Type 0 where
+  no-block : Wears
+  block-p : Wears
+
+-- what that does to wear, of store s and a thread with record r
+abbrev pub wearing : Wears → Store → Thread → Update
+wearing no-block s r = Keep
+wearing block-p s r = Put (r .p) (worn (s .wear (r .p)))
+
 pub record Shape : Type 0 where
   -- its line ends the operation, with this answer
   pub ends? : Bool
   pub answers : Answer
-  -- it changes locks and owners alone; it wears p; it keeps the registers n and c
+  -- it changes locks and owners alone; it keeps the registers n and c
   pub quiet? : Bool
-  pub wears? : Bool
   pub keepsN : Bool
   pub keepsC : Bool
+  pub wears : Wears
   -- the line to which it may go from a line, if not to the next
   pub jump : ℕ → ℕ
   pub looks : List Sight
 
--- a line that goes on, with what it changes
-abbrev shaped : Bool → Bool → Bool → Bool → (ℕ → ℕ) → List Sight → Shape
-shaped quiet wears n c jump looks =
-    record { ends? = false; answers = Zero; quiet? = quiet; wears? = wears; keepsN = n; keepsC = c; jump = jump; looks = looks }
+-- a line that goes on
+abbrev shaped : Bool → Bool → Bool → Wears → (ℕ → ℕ) → List Sight → Shape
+shaped quiet n c wears jump looks =
+    record { ends? = false; answers = Zero; quiet? = quiet; keepsN = n; keepsC = c; wears = wears; jump = jump; looks = looks }
 
 abbrev onwards : Shape
-onwards = shaped true false true true (λ line. line + 1) []
+onwards = shaped true true true no-block (λ line. line + 1) []
 
 abbrev stops : Answer → Shape
 stops a =
-    record { ends? = true; answers = a; quiet? = true; wears? = false; keepsN = true; keepsC = true; jump = λ line. line + 1; looks = [] }
+    record { ends? = true; answers = a; quiet? = true; keepsN = true; keepsC = true; wears = no-block; jump = λ line. line + 1; looks = [] }
 
 abbrev sees : List Sight → Shape
-sees looks = shaped true false true true (λ line. line + 1) looks
+sees looks = shaped true true true no-block (λ line. line + 1) looks
 
 abbrev alters : Shape
-alters = shaped false false true true (λ line. line + 1) []
+alters = shaped false true true no-block (λ line. line + 1) []
 
 abbrev frees : Shape
-frees = shaped false true true true (λ line. line + 1) (all-wear ∷ [])
+frees = shaped false true true block-p (λ line. line + 1) (all-wear ∷ [])
 
 abbrev reads : Shape
-reads = shaped true false true false (λ line. line + 1) (content-of-p ∷ [])
+reads = shaped true true false no-block (λ line. line + 1) (content-of-p ∷ [])
 
 abbrev jumps : ℕ → Shape
-jumps l = shaped true false true true (λ line. l) (map-of-n ∷ [])
+jumps l = shaped true true true no-block (λ line. l) (map-of-n ∷ [])
 
 abbrev empties : ℕ → Shape
-empties l = shaped true false true false (λ line. l) (map-of-n ∷ [])
+empties l = shaped true true false no-block (λ line. l) (map-of-n ∷ [])
 
 abbrev names : ℕ → Shape
-names l = shaped true false false true (λ line. l) []
+names l = shaped true false true no-block (λ line. l) []
 
 abbrev pub shape : Act → Shape
 shape Nothing = onwards
@@ -174,7 +185,7 @@ pub record Onto (a : Act) (s : Store) (t : ℕ) (r r′ : Thread) (e : Effect) :
   pub n : If (shape a .keepsN) (r′ .n ≡ r .n)
   pub c : If (shape a .keepsC) (r′ .c ≡ r .c)
   pub quiet : If (shape a .quiet?) (Quiet e)
-  pub wear : e .wear ≡ cond (shape a .wears?) (Put (r .p) (worn (s .wear (r .p)))) Keep
+  pub wear : e .wear ≡ wearing (shape a .wears) s r
   pub bounded : (most : ℕ) → NearBounded s t r most → Bounded s most r′ e
 
 -- and ends with a value

@@ -17,20 +17,24 @@ use Rattle.meaning.specs.Table.{upd}
 use Rattle.meaning.specs.Limits.{mostWord}
 use Rattle.meaning.specs.Store.{Store}
 use Rattle.meaning.specs.Programs.{READ, LEVEL, actAt}
-use Rattle.meaning.specs.Step.{worn, answer, verdict}
+use Rattle.meaning.specs.Step.{worn, answer, verdict, put}
 use Rattle.meaning.specs.Call.{Outcome, reply, told, Entry, begin, step, calling, callStore}
 use Rattle.meaning.specs.Counting.{freeing, WearCounts, finishesWith}
-use Rattle.meaning.proofs.Base.Words.{either-way, clash, and-left, and-right, alike, alike-is}
+use Rattle.meaning.proofs.Base.Words.{either-way, clash, and-left, and-right}
 use Rattle.meaning.proofs.Base.Schedules.{by-begin, by-step, refused-not}
 use Rattle.meaning.proofs.Invariant.{Stands}
 use Rattle.meaning.proofs.Invariant.Keeping.{standing, everyLine, everywhere}
-use Rattle.meaning.proofs.Acts.{shape, Lands, lands}
+use Rattle.meaning.proofs.Acts.{Wears, no-block, block-p, wearing, shape, Lands, lands}
 
 -- ---- wear
 
--- the lines whose act wears p are those that free it
-wears-frees : everyLine (λ op line. alike (shape (actAt op line) .wears?) (freeing (standing op line))) ≡ true
-wears-frees = refl
+-- an act wears p exactly at the lines that free it
+abbrev wears-right : Wears → Thread → Bool
+wears-right no-block r = not (freeing r)
+wears-right block-p r = freeing r
+
+wears-everywhere : everyLine (λ op line. wears-right (shape (actAt op line) .wears) (standing op line)) ≡ true
+wears-everywhere = refl
 
 worn-at : (wear : ℕ → ℕ) (p m : ℕ) →
     upd wear p (worn (wear p)) m ≡ cond (eqb p m && ltb (wear m) mostWord) (wear m + 1) (wear m)
@@ -40,14 +44,20 @@ worn-at wear p m = either-way (eqb p m) (λ e. rw (e, ← eqb-true p m e)) (λ e
 abbrev Counted : Store → Entry → Outcome → Type 0
 Counted s e o = WearCounts s (reply (λ s′. s′) s o .after) e (reply (λ s′. s′) s o .number)
 
-module _ (s : Store) (t : ℕ) (stands : Stands (s .thread t)) where
-  wears-is : shape (actAt (s .thread t .op) (s .thread t .line)) .wears? ≡ freeing (s .thread t)
-  wears-is = alike-is _ _ (everywhere (λ op line. alike (shape (actAt op line) .wears?) (freeing (standing op line))) wears-frees (s .thread t) stands)
+-- what wearing does, where it is right
+wearing-counts : (w : Wears) (s : Store) (r : Thread) → wears-right w (standing (r .op) (r .line)) ≡ true → (m : ℕ) →
+    put (wearing w s r) (s .wear) m ≡ cond (freeing r && eqb (r .p) m && ltb (s .wear m) mostWord) (s .wear m + 1) (s .wear m)
+wearing-counts no-block s r x m = rw (not-true (freeing r) x)
+wearing-counts block-p s r x m = rw x (worn-at (s .wear) (r .p) m)
 
+module _ (s : Store) (t : ℕ) (stands : Stands (s .thread t)) where
   told-counts : (v : Verdict) → Lands (actAt (s .thread t .op) (s .thread t .line)) s t (s .thread t) v → Counted s (step t) (told s t v)
   told-counts Blocked l m = refl
   told-counts Fault l m = refl
-  told-counts (Go r′ e) l m = rw (l .wear, wears-is) (either-way (freeing (s .thread t)) (λ f. rw f (worn-at (s .wear) (s .thread t .p) m)) (λ f. rw f))
+  told-counts (Go r′ e) l m =
+      rw (l .wear)
+      (wearing-counts (shape (actAt (s .thread t .op) (s .thread t .line)) .wears) s (s .thread t)
+      (everywhere (λ op line. wears-right (shape (actAt op line) .wears) (standing op line)) wears-everywhere (s .thread t) stands) m)
   told-counts (Done value e) l m = rw (l .wear)
 
 pub wear-counts : (s : Store) → ((t : ℕ) → Stands (s .thread t)) → (e : Entry) →

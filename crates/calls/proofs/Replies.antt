@@ -25,7 +25,7 @@ use Rattle.store.specs.Area.{Bytes, word, threadFrom, encode, decode, wellForme
 use Rattle.store.specs.Live.{Live, Within}
 use Rattle.store.specs.Calls.{formatArea, callArea}
 use Rattle.store.proofs.LastLines.{few-lines}
-use Rattle.store.proofs.Sound.{Sound, Working, SoundThread, wellFormed-sound}
+use Rattle.store.proofs.Sound.{Sound, Working, SoundThread, wellFormed-sound, near-bounded}
 use Rattle.store.proofs.Codec.{encode-decode}
 use Rattle.machine.specs.declared.Sizes.{Sizes}
 use Rattle.machine.specs.Judging.{Steady, AtLine}
@@ -204,7 +204,7 @@ module _ {a : List ℕ} {k : ℕ} {z : Sizes} (o : Opened a k z) {r : Thread} (i
               subst (VerdictInside (z .n) (z .p)) (sym e)
               (subst (λ (n : ℕ). VerdictInside n (z .p) act) (o .live .numbers)
               (subst (λ (p : ℕ). VerdictInside (word a nAt) p act) (o .live .blocks)
-              (perform-inside (decode a) (facts a (o .well)) k low r works (actAt (r .op) (r .line)))));
+              (perform-inside (decode a) k r (near-bounded (decode a) (facts a (o .well)) k low r works) (actAt (r .op) (r .line)))));
         }
 
 -- what was judged is a verdict x

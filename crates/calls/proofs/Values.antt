@@ -6,7 +6,6 @@ use mathlib.Core.List.{List}
 use Prim.Native.Nat.{ℕ, _+_, _/_, _%_, _≤_}
 use native.Mathlib.Omega.{arith}
 use lib.Dec.{eqb, ltb}
-use borrow.Author.Tests.{ltb-true, not-true}
 use Rattle.meaning.specs.declared.Act.{Act}
 use Rattle.meaning.specs.declared.Thread.{Thread}
 use Rattle.meaning.specs.declared.Verdict.{Verdict}
@@ -17,10 +16,10 @@ use Rattle.meaning.specs.Store.{Store}
 use Rattle.meaning.specs.Programs.{WRITE, LEVEL, actAt}
 use Rattle.meaning.specs.Step.{perform}
 use Rattle.meaning.specs.Call.{Outcome, refused, left, reply, check, isIdle, told}
-use Rattle.meaning.proofs.Acts.{NearBounded, Lands, lands}
+use Rattle.meaning.proofs.Acts.{NearWords, Lands, lands}
 use Rattle.store.specs.Area.{Bytes, decode, wellFormed, encode}
 use Rattle.store.specs.Calls.{beginArea, stepArea}
-use Rattle.store.proofs.Range.{good-ranged, near-ranged}
+use Rattle.store.proofs.Range.{good-ranged, near-words}
 
 -- ---- number and value taken apart
 
@@ -45,7 +44,7 @@ worth-value a nothing = omega arith
 worth-value a (value h) = h
 
 -- what a step comes to, where the words near its line are words
-worth-told : (s : Store) (t : ℕ) (r : Thread) → NearBounded s t r mostWord → (a : Act) (v : Verdict) → Lands a s t r v → Worth (told s t v)
+worth-told : (s : Store) (t : ℕ) (r : Thread) → NearWords s r mostWord → (a : Act) (v : Verdict) → Lands a s t r v → Worth (told s t v)
 worth-told s t r N a Blocked l = nothing
 worth-told s t r N a Fault l = nothing
 worth-told s t r N a (Go r′ e) l = value {v = 0} (omega arith)
@@ -70,8 +69,7 @@ step-value a t bytes =
     let act = actAt (r .op) (r .line) in
     worth-value a
     (worth-check (wellFormed a) SHAPE (λ formed.
-    worth-check (ltb t (s .threads)) THREAD (λ below.
-    worth-check (not (isIdle r)) IDLE (λ busy.
-    let R = good-ranged a (record { bytes = bytes; formed = formed }) in
-    worth-told s t r (near-ranged s R t (ltb-true t (s .threads) below) (not-true (isIdle r) busy)) act (perform act s t r)
+    worth-check (ltb t (s .threads)) THREAD (λ _.
+    worth-check (not (isIdle r)) IDLE (λ _.
+    worth-told s t r (near-words s (good-ranged a (record { bytes = bytes; formed = formed })) t) act (perform act s t r)
     (lands act s t r)))))

@@ -27,9 +27,9 @@ use Rattle.meaning.proofs.Invariant.{Becomes, Puts}
 use Rattle.meaning.proofs.Invariant.Keeping.{everyLine, everywhere}
 use Rattle.meaning.proofs.Base.Schedules.{by-begin, by-step}
 use Rattle.meaning.proofs.Lines.{_▸_, from-at}
-use Rattle.meaning.proofs.Acts.{shape, Bounded, Onto, Lands, lands}
-use Rattle.store.proofs.Sound.{Working, SoundThread, open-working, working-stands}
-use Rattle.store.proofs.Range.{Cell, Seat, Ranged, near-ranged}
+use Rattle.meaning.proofs.Acts.{shape, NearBounded, Bounded, LowWords, Onto, Lands, lands}
+use Rattle.store.proofs.Sound.{Working, SoundThread, open-working, working-stands, near-bounded}
+use Rattle.store.proofs.Range.{Cell, Seat, Ranged, ranged-sound, near-words}
 
 -- ---- a record and an effect that keep it
 
@@ -43,21 +43,27 @@ put-cell size bound Keep f x all = all
 put-cell size bound (Put i w) f x all =
     upd-each (Cell size bound) f i w (record { low = λ _. x .1; past = λ h. absurd (omega arith) }) (λ k _. all k)
 
+-- the place and the word
+both-puts : (size bound : ℕ) (c : Update) → Puts c (λ k w. k < size) → Puts c (λ k w. w ≤ bound) →
+    Puts c (λ k w. (k < size) × (w ≤ bound))
+both-puts size bound Keep x y = tt
+both-puts size bound (Put i w) x y = (x, y)
+
 apply-ranged : (s : Store) → Ranged s → (t : ℕ) → t < s .threads → (r : Thread) (e : Effect) →
-    SoundThread (s .numbers) (s .blocks) r → Bounded s mostWord r e → Ranged (apply s t r e)
-apply-ranged s R t below r e sound B =
+    SoundThread (s .numbers) (s .blocks) r → Bounded s r e → LowWords mostWord r e → Ranged (apply s t r e)
+apply-ranged s R t below r e sound B W =
     record {
       sizes = R .sizes;
       lock = become-low (e .lock) (s .lock) (s .threads) (B .lock) (R .lock);
       owner = become-low (e .owner) (s .owner) (s .threads) (B .owner) (R .owner);
       thread =
           upd-each (Seat (s .threads) (s .numbers) (s .blocks)) (s .thread) t r
-          (record { sound = λ _. sound; c = B .c; past = λ h. absurd (omega arith) }) (λ v _. R .thread v);
+          (record { sound = λ _. sound; c = W .c; past = λ h. absurd (omega arith) }) (λ v _. R .thread v);
       map = put-cell (s .numbers) (s .blocks) (e .map) (s .map) (B .map) (R .map);
       locks = put-cell (s .numbers) (s .threads) (e .locks) (s .locks) (B .locks) (R .locks);
       header = put-cell (s .blocks) (s .numbers) (e .header) (s .header) (B .header) (R .header);
-      content = put-cell (s .blocks) mostWord (e .content) (s .content) (B .content) (R .content);
-      wear = put-cell (s .blocks) mostWord (e .wear) (s .wear) (B .wear) (R .wear);
+      content = put-cell (s .blocks) mostWord (e .content) (s .content) (both-puts (s .blocks) mostWord (e .content) (B .content) (W .content)) (R .content);
+      wear = put-cell (s .blocks) mostWord (e .wear) (s .wear) (both-puts (s .blocks) mostWord (e .wear) (B .wear) (W .wear)) (R .wear);
       own = put-cell (s .blocks) (s .threads) (e .own) (s .own) (B .own) (R .own);
     }
 
@@ -93,7 +99,10 @@ module _ (s : Store) (R : Ranged s) (t : ℕ) (below : t < s .threads) where
     works : Working (s .numbers) (s .blocks) r
     works = open-working (R .thread t .sound below) busy
 
-    goes-sound : (r′ : Thread) (e : Effect) → Onto (actAt (r .op) (r .line)) s t r r′ e → Bounded s mostWord r′ e →
+    near : NearBounded s t r
+    near = near-bounded s (ranged-sound s R) t below r works
+
+    goes-sound : (r′ : Thread) (e : Effect) → Onto (actAt (r .op) (r .line)) s t r r′ e → Bounded s r′ e →
         SoundThread (s .numbers) (s .blocks) r′
     goes-sound r′ e O B =
         let a = actAt (r .op) (r .line) in
@@ -117,9 +126,10 @@ module _ (s : Store) (R : Ranged s) (t : ℕ) (below : t < s .threads) where
     told-ranged Blocked l = tt
     told-ranged Fault l = tt
     told-ranged (Go r′ e) l =
-        let B = l .bounded mostWord (near-ranged s R t below busy) in
-        apply-ranged s R t below r′ e (goes-sound r′ e l B) B
-    told-ranged (Done value e) l = apply-ranged s R t below idle e (inl refl) (l .bounded mostWord (near-ranged s R t below busy))
+        let B = l .bounded near in
+        apply-ranged s R t below r′ e (goes-sound r′ e l B) B (l .words mostWord (near-words s R t))
+    told-ranged (Done value e) l =
+        apply-ranged s R t below idle e (inl refl) (l .bounded near) (l .words mostWord (near-words s R t))
 
     step-ranged : LeavesRanged (told s t (verdict s t))
     step-ranged = told-ranged (verdict s t) (lands (actAt (r .op) (r .line)) s t r)
@@ -142,7 +152,7 @@ module _ (s : Store) (R : Ranged s) (t : ℕ) (below : t < s .threads) where
         q-low = omega arith;
         h-low = omega arith;
       } in
-      apply-ranged s R t below (begun op n c) nothing (inr w) (search arith)
+      apply-ranged s R t below (begun op n c) nothing (inr w) (search arith) (search arith)
 
 pub calling-ranged : (s : Store) → Ranged s → (e : Entry) → Words e → LeavesRanged (calling s e)
 calling-ranged s R (begin t op n c) w =

@@ -1,6 +1,5 @@
 -- The entries that a verdict's effect puts to are within their tables: read off what is proved of every act. Assumes nothing.
-use Prim.Native.Nat.{ℕ, _+_, _<_, _≤_}
-use native.Mathlib.Omega.{arith}
+use Prim.Native.Nat.{ℕ, _<_, _≤_}
 use Rattle.meaning.specs.declared.Act.{Act}
 use Rattle.meaning.specs.declared.Thread.{Thread}
 use Rattle.meaning.specs.declared.Effect.{Effect}
@@ -8,12 +7,11 @@ use Rattle.meaning.specs.declared.Update.{Update}
 use Rattle.meaning.specs.declared.Update.the-variants.{Keep, Put}
 use Rattle.meaning.specs.declared.Verdict.{Verdict}
 use Rattle.meaning.specs.declared.Verdict.the-variants.{Blocked, Fault, Go, Done}
-use Rattle.meaning.specs.Store.{Store}
-use Rattle.meaning.specs.Step.{perform, nothing, worn}
+use Rattle.meaning.specs.Store.{Store, idle}
+use Rattle.meaning.specs.Step.{perform, nothing}
 use Rattle.meaning.proofs.Invariant.{Puts}
 use Rattle.meaning.proofs.Acts.{NearBounded, Bounded, Lands, lands}
 use Rattle.store.specs.Live.{EntryBelow}
-use Rattle.store.proofs.Sound.{Working, Sound, near-sound}
 use Rattle.machine.specs.Settling.{EffectInside}
 
 abbrev pub VerdictInside : ℕ → ℕ → Verdict → Type 0
@@ -29,30 +27,27 @@ entry-below : (size bound : ℕ) (c : Update) → Puts c (λ k w. (k < size) × 
 entry-below size bound Keep x = tt
 entry-below size bound (Put i w) x = x .0
 
-effect-inside : (s : Store) (most : ℕ) (r : Thread) (e : Effect) → Bounded s most r e → EffectInside (s .numbers) (s .blocks) e
-effect-inside s most r e B =
+place-below : (size : ℕ) (c : Update) → Puts c (λ k w. k < size) → EntryBelow size c
+place-below size Keep x = tt
+place-below size (Put i w) x = x
+
+effect-inside : (s : Store) (r : Thread) (e : Effect) → Bounded s r e → EffectInside (s .numbers) (s .blocks) e
+effect-inside s r e B =
     record {
       map = entry-below (s .numbers) (s .blocks) (e .map) (B .map);
       locks = entry-below (s .numbers) (s .threads) (e .locks) (B .locks);
       header = entry-below (s .blocks) (s .numbers) (e .header) (B .header);
-      content = entry-below (s .blocks) most (e .content) (B .content);
-      wear = entry-below (s .blocks) most (e .wear) (B .wear);
+      content = place-below (s .blocks) (e .content) (B .content);
+      wear = place-below (s .blocks) (e .wear) (B .wear);
       own = entry-below (s .blocks) (s .threads) (e .own) (B .own);
     }
 
-module _ (s : Store) (S : Sound s) (t : ℕ) (below : t < s .threads) (r : Thread) (w : Working (s .numbers) (s .blocks) r) where
-  -- no word of the store is bounded here
-  abbrev most : ℕ
-  most = 1 + r .c + s .content (r .p) + worn (s .wear (r .p))
-
-  near : NearBounded s t r most
-  near = near-sound s S t below r w most (omega arith) (omega arith) (omega arith) (omega arith)
-
+module _ (s : Store) (t : ℕ) (r : Thread) (N : NearBounded s t r) where
   verdict-inside : (a : Act) (v : Verdict) → Lands a s t r v → VerdictInside (s .numbers) (s .blocks) v
   verdict-inside a Blocked l = tt
   verdict-inside a Fault l = tt
-  verdict-inside a (Go r′ e) l = effect-inside s most r′ e (l .bounded most near)
-  verdict-inside a (Done value e) l = effect-inside s most _ e (l .bounded most near)
+  verdict-inside a (Go r′ e) l = effect-inside s r′ e (l .bounded N)
+  verdict-inside a (Done value e) l = effect-inside s idle e (l .bounded N)
 
   pub perform-inside : (a : Act) → VerdictInside (s .numbers) (s .blocks) (perform a s t r)
   perform-inside a = verdict-inside a (perform a s t r) (lands a s t r)

@@ -30,7 +30,7 @@ use Rattle.meaning.specs.Table.{every}
 use Rattle.meaning.specs.Store.{Store, idle}
 use Rattle.meaning.specs.Holding.{free, heldBy}
 use Rattle.meaning.specs.Choosing.{best, leastWorn, fromBlock}
-use Rattle.meaning.specs.Step.{block, worn, answer, touches, heads, perform}
+use Rattle.meaning.specs.Step.{onward, setC, block, nothing, onFreed, worn, answer, touches, heads, perform}
 use Rattle.meaning.specs.Needs.{Need, met, allMet, Asks, takes-H, takes-N, needs, no-line, asks, fails, waits}
 use Rattle.meaning.proofs.Base.Words.{either-way, clash, and-left, and-right, named-below}
 use Rattle.meaning.proofs.Base.Searches.{finds, finds-nobody, Lowest, lowest-finds, Best, best-finds}
@@ -138,35 +138,43 @@ pub record Quiet (e : Effect) : Type 0 where
 
 -- ---- bounds
 
--- thread t is one of the store's, and the words that its line may use are in bounds: contents, wear and c are at most some word
-pub record NearBounded (s : Store) (t : ℕ) (r : Thread) (most : ℕ) : Type 0 where
+-- thread t is one of the store's, and the numbers near its line are in bounds: its registers n, p, q and h, n's entry of the map and p's header
+pub record NearBounded (s : Store) (t : ℕ) (r : Thread) : Type 0 where
   pub thread : t < s .threads
   pub n : r .n < s .numbers
   pub p : r .p < s .blocks
   pub q : r .q < s .blocks
   pub h : r .h ≤ s .numbers
-  pub c : r .c ≤ most
   pub map : s .map (r .n) ≤ s .blocks
   pub header : s .header (r .p) ≤ s .numbers
-  pub content : s .content (r .p) ≤ most
-  pub wear : worn (s .wear (r .p)) ≤ most
-  pub moved : 1 ≤ most
 
--- the registers, and what the effect puts
-pub record Bounded (s : Store) (most : ℕ) (r : Thread) (e : Effect) : Type 0 where
+-- so are the registers of the next record, and what the effect puts and where
+pub record Bounded (s : Store) (r : Thread) (e : Effect) : Type 0 where
   pub n : r .n < s .numbers
   pub p : r .p < s .blocks
   pub q : r .q < s .blocks
   pub h : r .h ≤ s .numbers
-  pub c : r .c ≤ most
   pub lock : Becomes (e .lock) (λ w. w ≤ s .threads)
   pub owner : Becomes (e .owner) (λ w. w ≤ s .threads)
   pub map : Puts (e .map) (λ k w. (k < s .numbers) × (w ≤ s .blocks))
   pub locks : Puts (e .locks) (λ k w. (k < s .numbers) × (w ≤ s .threads))
   pub header : Puts (e .header) (λ m w. (m < s .blocks) × (w ≤ s .numbers))
-  pub content : Puts (e .content) (λ m w. (m < s .blocks) × (w ≤ most))
-  pub wear : Puts (e .wear) (λ m w. (m < s .blocks) × (w ≤ most))
+  pub content : Puts (e .content) (λ m w. m < s .blocks)
+  pub wear : Puts (e .wear) (λ m w. m < s .blocks)
   pub own : Puts (e .own) (λ m w. (m < s .blocks) × (w ≤ s .threads))
+
+-- register c, the contents and what wear comes to are at most a word
+pub record NearWords (s : Store) (r : Thread) (most : ℕ) : Type 0 where
+  pub some : 1 ≤ most
+  pub c : r .c ≤ most
+  pub content : (m : ℕ) → s .content m ≤ most
+  pub wear : (m : ℕ) → worn (s .wear m) ≤ most
+
+-- so are those of the next record and of the effect
+pub record LowWords (most : ℕ) (r : Thread) (e : Effect) : Type 0 where
+  pub c : r .c ≤ most
+  pub content : Puts (e .content) (λ m w. w ≤ most)
+  pub wear : Puts (e .wear) (λ m w. w ≤ most)
 
 -- ---- what an act comes to
 
@@ -186,7 +194,8 @@ pub record Onto (a : Act) (s : Store) (t : ℕ) (r r′ : Thread) (e : Effect) :
   pub c : If (shape a .keepsC) (r′ .c ≡ r .c)
   pub quiet : If (shape a .quiet?) (Quiet e)
   pub wear : e .wear ≡ wearing (shape a .wears) s r
-  pub bounded : (most : ℕ) → NearBounded s t r most → Bounded s most r′ e
+  pub bounded : NearBounded s t r → Bounded s r′ e
+  pub words : (most : ℕ) → NearWords s r most → LowWords most r′ e
 
 -- and ends with a value
 pub record Stops (a : Act) (s : Store) (t : ℕ) (r : Thread) (value : ℕ) (e : Effect) : Type 0 where
@@ -194,8 +203,9 @@ pub record Stops (a : Act) (s : Store) (t : ℕ) (r : Thread) (value : ℕ) (e :
   pub ends : shape a .ends? ≡ true
   pub answers : value ≡ answer (shape a .answers) r
   pub wear : e .wear ≡ Keep
-  pub low : (most : ℕ) → NearBounded s t r most → value ≤ most
-  pub bounded : (most : ℕ) → NearBounded s t r most → Bounded s most idle e
+  pub bounded : NearBounded s t r → Bounded s idle e
+  pub words : (most : ℕ) → NearWords s r most → LowWords most idle e
+  pub low : (most : ℕ) → NearWords s r most → value ≤ most
 
 abbrev pub Lands : Act → Store → ℕ → Thread → Verdict → Type 0
 Lands a s t r Blocked = (fails s t r (asks a) ≡ false) × (waits s r (asks a) ≡ true)
@@ -217,10 +227,17 @@ none-free : (header : ℕ → ℕ) (k : ℕ) → ((m : ℕ) → m < k → free (
 none-free header zero all = refl
 none-free header (suc k) all = rw (none-free header k (λ m b. all m (omega arith)), all k (omega arith))
 
-answer-low : (a : Answer) {s : Store} {t : ℕ} {r : Thread} {most : ℕ} → NearBounded s t r most → answer a r ≤ most
-answer-low Zero N = omega arith
-answer-low C N = N .c
-answer-low Moved {r} N = either-way (free (r .h)) (λ f. rw f (omega (arith, N .moved))) (λ f. rw f (omega (arith, N .moved)))
+answer-low : (a : Answer) (s : Store) (r : Thread) (most : ℕ) → NearWords s r most → answer a r ≤ most
+answer-low Zero s r most N = omega arith
+answer-low C s r most N = N .c
+answer-low Moved s r most N = either-way (free (r .h)) (λ f. rw f (omega arith)) (λ f. rw f (omega (arith, N .some)))
+
+read-words : (s : Store) (r : Thread) (most : ℕ) → NearWords s r most → LowWords most (onward (setC (s .content (r .p)) r)) nothing
+read-words s r most N = record { c = N .content (r .p); content = tt; wear = tt }
+
+freed-words : (s : Store) (r : Thread) (most : ℕ) → NearWords s r most →
+    LowWords most (onward r) (onFreed (r .p) (worn (s .wear (r .p))))
+freed-words s r most N = record { c = N .c; content = tt; wear = N .wear (r .p) }
 
 -- two needs are met where both tests hold
 both-met : (x y : Bool) → x && y ≡ true → not (x && (y && true)) ≡ false
@@ -277,10 +294,10 @@ pub lands : (a : Act) (s : Store) (t : ℕ) (r : Thread) → Lands a s t r (perf
 lands Nothing s t r = search
 lands TakeH s t r = either-way (free (s .lock)) (λ f. rw f (search (inl, arith))) (λ f. rw f search)
 lands ReleaseH s t r = either-way (heldBy t (s .lock)) (λ f. rw f (search (inl, arith))) (λ f. rw f search)
-lands (FinishH a) s t r = either-way (heldBy t (s .lock)) (λ f. rw f (search (arith, answer-low a))) (λ f. rw f search)
+lands (FinishH a) s t r = either-way (heldBy t (s .lock)) (λ f. rw f (search (arith, answer-low a s r))) (λ f. rw f search)
 lands TakeN s t r = either-way (free (s .locks (r .n))) (λ f. rw f (search (inl, arith))) (λ f. rw f search)
 lands ReleaseN s t r = either-way (heldBy t (s .locks (r .n))) (λ f. rw f (search (inl, arith))) (λ f. rw f search)
-lands (FinishN a) s t r = either-way (heldBy t (s .locks (r .n))) (λ f. rw f (search (arith, answer-low a))) (λ f. rw f search)
+lands (FinishN a) s t r = either-way (heldBy t (s .locks (r .n))) (λ f. rw f (search (arith, answer-low a s r))) (λ f. rw f search)
 lands OwnHeaders s t r = either-way (free (s .owner)) (λ f. rw f (search (inl, arith))) (λ f. rw f search)
 lands LetGoHeaders s t r = either-way (heldBy t (s .owner)) (λ f. rw f (search (inl, arith))) (λ f. rw f search)
 lands (Own P) s t r = either-way (free (s .own (block P r))) (λ f. rw f (search (inl, arith))) (λ f. rw f search)
@@ -298,9 +315,9 @@ lands Choose s t r = either-way (heldBy t (s .owner)) (λ f. chooses s t r f) (�
 lands ReadHeader s t r = either-way (heldBy t (s .owner)) (λ f. rw f (search (inl, arith))) (λ f. rw f search)
 lands WriteHeaderN s t r = either-way (heads s t (r .p)) (λ f. rw f (search (inl, arith, both-met))) (λ f. rw f (search both-unmet))
 lands WriteHeaderH s t r = either-way (heads s t (r .q)) (λ f. rw f (search (inl, arith, both-met))) (λ f. rw f (search both-unmet))
-lands FreeHeader s t r = either-way (heads s t (r .p)) (λ f. rw f (search (inl, arith, both-met))) (λ f. rw f (search both-unmet))
+lands FreeHeader s t r = either-way (heads s t (r .p)) (λ f. rw f (search (inl, arith, both-met, freed-words))) (λ f. rw f (search both-unmet))
 lands EmptyContent s t r = either-way (touches s t (r .p)) (λ f. rw f (search (inl, arith, both-met))) (λ f. rw f (search both-unmet))
-lands ReadContent s t r = either-way (touches s t (r .p)) (λ f. rw f (search (inl, arith, both-met))) (λ f. rw f (search both-unmet))
+lands ReadContent s t r = either-way (touches s t (r .p)) (λ f. rw f (search (inl, arith, both-met, read-words))) (λ f. rw f (search both-unmet))
 lands (WriteContent P) s t r = either-way (touches s t (block P r)) (λ f. rw f (search (inl, arith, both-met))) (λ f. rw f (search both-unmet))
 lands (WriteContent Q) s t r = either-way (touches s t (block Q r)) (λ f. rw f (search (inl, arith, both-met))) (λ f. rw f (search both-unmet))
 lands (MapTo P) s t r = search (inl, arith)

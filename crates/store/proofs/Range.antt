@@ -1,28 +1,27 @@
 -- A store in range: sizes in limits, each word in its bounds and below 2^32, and 0 past the sizes. It is what a well-formed area of
 -- bytes holds, and its area is a well-formed one of bytes that holds it. Assumes nothing.
 use mathlib.Core.Path.{_≡_, refl, sym, _∙_, ap, subst}
-use mathlib.Core.Bool.{true, false}
+use mathlib.Core.Bool.{true}
 use mathlib.Core.List.{List, [], _∷_, _++_}
 use mathlib.Core.Logic.{inl, inr}
 use Prim.Native.Nat.{ℕ, zero, suc, _+_, _*_, _<_, _≤_}
 use native.Mathlib.Omega.{arith}
 use lib.Dec.{eqb, ltb}
 use lib.ListN.{length}
-use borrow.Author.Tests.{ltb-true, lt-ltb, le-ltb}
+use borrow.Author.Tests.{ltb-true, ltb-false, lt-ltb, le-ltb}
 use Rattle.meaning.specs.declared.Thread.{Thread}
 use Rattle.meaning.specs.Numbers.{WENT}
 use Rattle.meaning.specs.Limits.{mostWord, inLimits}
 use Rattle.meaning.specs.Store.{Store, idle, fresh}
 use Rattle.meaning.specs.Step.{worn}
-use Rattle.meaning.specs.Call.{isIdle}
 use Rattle.meaning.proofs.Base.Words.{either-way}
-use Rattle.meaning.proofs.Acts.{NearBounded}
+use Rattle.meaning.proofs.Acts.{NearWords}
 use Rattle.store.specs.Layout.{tAt, size}
 use Rattle.store.specs.Area.{Bytes, word, rows, threadRow, blockRow, words, encode, column, decode, wellFormed}
 use Rattle.store.specs.Calls.{formatArea, Formatted, format}
 use Rattle.store.proofs.Bytes.{OfWords, low-at, low-append, word-low, bytes-bytes}
 use Rattle.store.proofs.LastLines.{few-lines}
-use Rattle.store.proofs.Sound.{Sizes, limits-sizes, SoundThread, Sound, open-working, near-sound, wellFormed-sound}
+use Rattle.store.proofs.Sound.{Sizes, limits-sizes, SoundThread, Sound, wellFormed-sound}
 use Rattle.store.proofs.Codec.{InRange, encode-decode, decode-encode, length-encode}
 
 -- ---- a store in range
@@ -181,18 +180,23 @@ sound-ranged s S I =
     let e = decode-encode s I in
     subst Ranged e (decode-ranged (encode s) (bytes-bytes (words s)) (subst Sound (sym e) S))
 
--- ---- an open thread
+-- ---- near a thread's line
 
 worn-word : (w : ℕ) → w ≤ mostWord → worn w ≤ mostWord
 worn-word w low = either-way (ltb w mostWord) (λ x. let y = ltb-true w mostWord x in rw x (omega arith)) (λ x. rw x low)
 
-pub near-ranged : (s : Store) → Ranged s → (t : ℕ) → t < s .threads → isIdle (s .thread t) ≡ false →
-    NearBounded s t (s .thread t) mostWord
-near-ranged s R t below busy =
-    let r = s .thread t in
-    let w = open-working (R .thread t .sound below) busy in
-    near-sound s (ranged-sound s R) t below r w mostWord (R .thread t .c) (R .content (r .p) .low (w .p-low))
-    (worn-word (s .wear (r .p)) (R .wear (r .p) .low (w .p-low))) (omega arith)
+cell-word : (size k w : ℕ) → Cell size mostWord k w → w ≤ mostWord
+cell-word size k w x =
+    either-way (ltb k size) (λ b. x .low (ltb-true k size b)) (λ b. let y = x .past (ltb-false k size b) in omega arith)
+
+pub near-words : (s : Store) → Ranged s → (t : ℕ) → NearWords s (s .thread t) mostWord
+near-words s R t =
+    record {
+      some = omega arith;
+      c = R .thread t .c;
+      content = λ m. cell-word (s .blocks) m (s .content m) (R .content m);
+      wear = λ m. worn-word (s .wear m) (cell-word (s .blocks) m (s .wear m) (R .wear m));
+    }
 
 -- ---- good areas
 

@@ -15,7 +15,6 @@ use Rattle.meaning.specs.Table.{every}
 use Rattle.meaning.specs.Limits.{least, mostThreads, mostNumbers, mostBlocks, mostDistance, within, inLimits}
 use Rattle.meaning.specs.Store.{Store, idle}
 use Rattle.meaning.specs.Programs.{WRITE, LEVEL, lastLine}
-use Rattle.meaning.specs.Step.{worn}
 use Rattle.meaning.specs.Call.{isIdle}
 use Rattle.meaning.proofs.Base.Words.{either-way, clash, and-left, and-right, within-true}
 use Rattle.meaning.proofs.Invariant.{Stands}
@@ -248,22 +247,17 @@ working-stands {r = r} w =
     rw (le-leb 1 (r .line) (w .line .0)) (le-leb (r .line) (lastLine (r .op)) (w .line .1)) in
     inr (rw op line)
 
--- the words near the line of a thread that works are in bounds, contents, wear and c at most any word that they are at most
-pub near-sound : (s : Store) → Sound s → (t : ℕ) → t < s .threads → (r : Thread) → Working (s .numbers) (s .blocks) r → (most : ℕ) →
-    r .c ≤ most → s .content (r .p) ≤ most → worn (s .wear (r .p)) ≤ most → 1 ≤ most → NearBounded s t r most
-near-sound s S t below r w most c content wear moved =
+-- the numbers near its line are in bounds
+pub near-bounded : (s : Store) → Sound s → (t : ℕ) → t < s .threads → (r : Thread) → Working (s .numbers) (s .blocks) r → NearBounded s t r
+near-bounded s S t below r w =
     record {
       thread = below;
       n = w .n-low;
       p = w .p-low;
       q = w .q-low;
       h = w .h-low;
-      c = c;
       map = S .map (r .n) (w .n-low);
       header = S .header (r .p) (w .p-low);
-      content = content;
-      wear = wear;
-      moved = moved;
     }
 
 -- ---- the area

@@ -2,7 +2,9 @@
 -- are read, and the folder X/ beside it. In a reader's order:
 --  * Base: laws of words, searches, schedules and lists of operations.
 --  * Invariant: who may touch what when.
---  * Lines: each of the 51 lines keeps to it.
+--  * Acts: what each act comes to, walked once for all that is proved of every act.
+--  * AnyStore: wear and answers of any store, grown or made by hand.
+--  * Lines: each of the 51 lines keeps to the invariant.
 --  * Progress: demand 1. Nothing faults, and somebody can step.
 --  * EitherOrder: demand 3, first half.
 --  * Manager: demand 2. Each answer is the atomic manager's, and schedules are linearizable.

@@ -2,7 +2,7 @@
 -- of last locks leave, run whole one after the other; and each thread's operations have answered the same (`one-at-a-time`). Before that,
 -- finished or not: what a thread has finished with are the first of its answers in that run, and the rest is at most one, that of its
 -- open operation that has its place (`answers-so-far`). To be read in this order:
---  * Shapes, Places: what an act may do to its thread's record, and which open operations have their place in the order.
+--  * Places: which open operations have their place in the order.
 --  * Settles: what a store comes to when those go on to their end; a thread that moves first doesn't change it.
 --  * Alone, Replay: a thread alone in a store, and the lines before its last lock run again.
 --  * LastLock: a step that takes a last lock turns what the store comes to into what the whole operation leaves.

@@ -27,7 +27,7 @@ use Rattle.meaning.proofs.Invariant.{Becomes, Puts}
 use Rattle.meaning.proofs.Invariant.Keeping.{everyLine, everywhere}
 use Rattle.meaning.proofs.Base.Schedules.{by-begin, by-step}
 use Rattle.meaning.proofs.Lines.{_▸_, from-at}
-use Rattle.meaning.proofs.Acts.{shape, NearBounded, Bounded, LowWords, Onto, Lands, lands}
+use Rattle.meaning.proofs.Acts.{wearing, shape, NearBounded, Bounded, LowWords, wearing-bounded, wearing-low, Onto, Lands, lands}
 use Rattle.store.proofs.Sound.{Working, SoundThread, open-working, working-stands, near-bounded}
 use Rattle.store.proofs.Range.{Cell, Seat, Ranged, ranged-sound, near-words}
 
@@ -50,8 +50,9 @@ both-puts size bound Keep x y = tt
 both-puts size bound (Put i w) x y = (x, y)
 
 apply-ranged : (s : Store) → Ranged s → (t : ℕ) → t < s .threads → (r : Thread) (e : Effect) →
-    SoundThread (s .numbers) (s .blocks) r → Bounded s r e → LowWords mostWord r e → Ranged (apply s t r e)
-apply-ranged s R t below r e sound B W =
+    SoundThread (s .numbers) (s .blocks) r → Bounded s r e → LowWords mostWord r e →
+    Puts (e .wear) (λ m w. (m < s .blocks) × (w ≤ mostWord)) → Ranged (apply s t r e)
+apply-ranged s R t below r e sound B W wear =
     record {
       sizes = R .sizes;
       lock = become-low (e .lock) (s .lock) (s .threads) (B .lock) (R .lock);
@@ -63,7 +64,7 @@ apply-ranged s R t below r e sound B W =
       locks = put-cell (s .numbers) (s .threads) (e .locks) (s .locks) (B .locks) (R .locks);
       header = put-cell (s .blocks) (s .numbers) (e .header) (s .header) (B .header) (R .header);
       content = put-cell (s .blocks) mostWord (e .content) (s .content) (both-puts (s .blocks) mostWord (e .content) (B .content) (W .content)) (R .content);
-      wear = put-cell (s .blocks) mostWord (e .wear) (s .wear) (both-puts (s .blocks) mostWord (e .wear) (B .wear) (W .wear)) (R .wear);
+      wear = put-cell (s .blocks) mostWord (e .wear) (s .wear) wear (R .wear);
       own = put-cell (s .blocks) (s .threads) (e .own) (s .own) (B .own) (R .own);
     }
 
@@ -127,9 +128,12 @@ module _ (s : Store) (R : Ranged s) (t : ℕ) (below : t < s .threads) where
     told-ranged Fault l = tt
     told-ranged (Go r′ e) l =
         let B = l .bounded near in
+        let w = shape (actAt (r .op) (r .line)) .wears in
         apply-ranged s R t below r′ e (goes-sound r′ e l B) B (l .words mostWord (near-words s R t))
+        (rw (l .wear) (both-puts (s .blocks) mostWord (wearing w s r) (wearing-bounded w s t r near)
+        (wearing-low w s r mostWord (near-words s R t))))
     told-ranged (Done value e) l =
-        apply-ranged s R t below idle e (inl refl) (l .bounded near) (l .words mostWord (near-words s R t))
+        apply-ranged s R t below idle e (inl refl) (l .bounded near) (l .words mostWord (near-words s R t)) (rw (l .wear) tt)
 
     step-ranged : LeavesRanged (told s t (verdict s t))
     step-ranged = told-ranged (verdict s t) (lands (actAt (r .op) (r .line)) s t r)
@@ -152,7 +156,7 @@ module _ (s : Store) (R : Ranged s) (t : ℕ) (below : t < s .threads) where
         q-low = omega arith;
         h-low = omega arith;
       } in
-      apply-ranged s R t below (begun op n c) nothing (inr w) (search arith) (search arith)
+      apply-ranged s R t below (begun op n c) nothing (inr w) (search arith) (search arith) tt
 
 pub calling-ranged : (s : Store) → Ranged s → (e : Entry) → Words e → LeavesRanged (calling s e)
 calling-ranged s R (begin t op n c) w =

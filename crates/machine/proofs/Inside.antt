@@ -10,7 +10,7 @@ use Rattle.meaning.specs.declared.Verdict.the-variants.{Blocked, Fault, Go, Don
 use Rattle.meaning.specs.Store.{Store, idle}
 use Rattle.meaning.specs.Step.{perform, nothing}
 use Rattle.meaning.proofs.Invariant.{Puts}
-use Rattle.meaning.proofs.Acts.{NearBounded, Bounded, Lands, lands}
+use Rattle.meaning.proofs.Acts.{wearing, shape, NearBounded, Bounded, wearing-bounded, Lands, lands}
 use Rattle.store.specs.Live.{EntryBelow}
 use Rattle.machine.specs.Settling.{EffectInside}
 
@@ -31,14 +31,15 @@ place-below : (size : ℕ) (c : Update) → Puts c (λ k w. k < size) → EntryB
 place-below size Keep x = tt
 place-below size (Put i w) x = x
 
-effect-inside : (s : Store) (r : Thread) (e : Effect) → Bounded s r e → EffectInside (s .numbers) (s .blocks) e
-effect-inside s r e B =
+effect-inside : (s : Store) (r : Thread) (e : Effect) → Bounded s r e → EntryBelow (s .blocks) (e .wear) →
+    EffectInside (s .numbers) (s .blocks) e
+effect-inside s r e B wear =
     record {
       map = entry-below (s .numbers) (s .blocks) (e .map) (B .map);
       locks = entry-below (s .numbers) (s .threads) (e .locks) (B .locks);
       header = entry-below (s .blocks) (s .numbers) (e .header) (B .header);
       content = place-below (s .blocks) (e .content) (B .content);
-      wear = place-below (s .blocks) (e .wear) (B .wear);
+      wear = wear;
       own = entry-below (s .blocks) (s .threads) (e .own) (B .own);
     }
 
@@ -46,8 +47,10 @@ module _ (s : Store) (t : ℕ) (r : Thread) (N : NearBounded s t r) where
   verdict-inside : (a : Act) (v : Verdict) → Lands a s t r v → VerdictInside (s .numbers) (s .blocks) v
   verdict-inside a Blocked l = tt
   verdict-inside a Fault l = tt
-  verdict-inside a (Go r′ e) l = effect-inside s r′ e (l .bounded N)
-  verdict-inside a (Done value e) l = effect-inside s idle e (l .bounded N)
+  verdict-inside a (Go r′ e) l =
+      effect-inside s r′ e (l .bounded N)
+      (rw (l .wear) (place-below (s .blocks) (wearing (shape a .wears) s r) (wearing-bounded (shape a .wears) s t r N)))
+  verdict-inside a (Done value e) l = effect-inside s idle e (l .bounded N) (rw (l .wear) tt)
 
   pub perform-inside : (a : Act) → VerdictInside (s .numbers) (s .blocks) (perform a s t r)
   perform-inside a = verdict-inside a (perform a s t r) (lands a s t r)

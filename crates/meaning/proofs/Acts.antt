@@ -11,7 +11,7 @@ use mathlib.Core.List.{List, [], _∷_}
 use mathlib.Core.Logic.{_⊎_, inl, inr, _↔_}
 use Prim.Native.Nat.{ℕ, zero, suc, _+_, _<_, _≤_}
 use native.Mathlib.Omega.{arith}
-use lib.Dec.{eqb, ltb}
+use lib.Dec.{eqb}
 use borrow.Author.Tests.{lt-ltb, le-ltb, eqb-true, eqb-false}
 use Rattle.meaning.specs.declared.Reg.the-variants.{P, Q}
 use Rattle.meaning.specs.declared.Answer.{Answer}
@@ -22,18 +22,15 @@ use Rattle.meaning.specs.declared.Thread.{Thread}
 use Rattle.meaning.specs.declared.Update.{Update}
 use Rattle.meaning.specs.declared.Update.the-variants.{Keep, Put}
 use Rattle.meaning.specs.declared.Effect.{Effect}
-use Rattle.meaning.specs.declared.Found.{Found}
-use Rattle.meaning.specs.declared.Found.the-variants.{Nobody, At}
 use Rattle.meaning.specs.declared.Verdict.{Verdict}
 use Rattle.meaning.specs.declared.Verdict.the-variants.{Blocked, Fault, Go, Done}
 use Rattle.meaning.specs.Table.{every}
 use Rattle.meaning.specs.Store.{Store, idle}
 use Rattle.meaning.specs.Holding.{free, heldBy}
-use Rattle.meaning.specs.Choosing.{best, leastWorn, fromBlock}
-use Rattle.meaning.specs.Step.{onward, setC, block, nothing, onFreed, worn, answer, touches, heads, perform}
+use Rattle.meaning.specs.Step.{onward, setC, block, nothing, worn, answer, touches, heads, perform}
 use Rattle.meaning.specs.Needs.{Need, met, allMet, Asks, takes-H, takes-N, needs, no-line, asks, fails, waits}
 use Rattle.meaning.proofs.Base.Words.{either-way, clash, and-left, and-right, named-below}
-use Rattle.meaning.proofs.Base.Searches.{finds, finds-nobody, Lowest, lowest-finds, Best, best-finds}
+use Rattle.meaning.proofs.Base.Searches.{finds, finds-nobody, Lowest, lowest-finds, To, to-finds, from-below}
 use Rattle.meaning.proofs.Invariant.{If, Becomes, Puts}
 
 -- ---- shapes
@@ -148,7 +145,7 @@ pub record NearBounded (s : Store) (t : ℕ) (r : Thread) : Type 0 where
   pub map : s .map (r .n) ≤ s .blocks
   pub header : s .header (r .p) ≤ s .numbers
 
--- so are the registers of the next record, and what the effect puts and where
+-- so are the registers of the next record, and what the effect puts and where, but for wear
 pub record Bounded (s : Store) (r : Thread) (e : Effect) : Type 0 where
   pub n : r .n < s .numbers
   pub p : r .p < s .blocks
@@ -160,7 +157,6 @@ pub record Bounded (s : Store) (r : Thread) (e : Effect) : Type 0 where
   pub locks : Puts (e .locks) (λ k w. (k < s .numbers) × (w ≤ s .threads))
   pub header : Puts (e .header) (λ m w. (m < s .blocks) × (w ≤ s .numbers))
   pub content : Puts (e .content) (λ m w. m < s .blocks)
-  pub wear : Puts (e .wear) (λ m w. m < s .blocks)
   pub own : Puts (e .own) (λ m w. (m < s .blocks) × (w ≤ s .threads))
 
 -- register c, the contents and what wear comes to are at most a word
@@ -174,7 +170,15 @@ pub record NearWords (s : Store) (r : Thread) (most : ℕ) : Type 0 where
 pub record LowWords (most : ℕ) (r : Thread) (e : Effect) : Type 0 where
   pub c : r .c ≤ most
   pub content : Puts (e .content) (λ m w. w ≤ most)
-  pub wear : Puts (e .wear) (λ m w. w ≤ most)
+
+-- what wearing does is in bounds too
+pub wearing-bounded : (w : Wears) (s : Store) (t : ℕ) (r : Thread) → NearBounded s t r → Puts (wearing w s r) (λ m x. m < s .blocks)
+wearing-bounded no-block s t r N = tt
+wearing-bounded block-p s t r N = N .p
+
+pub wearing-low : (w : Wears) (s : Store) (r : Thread) (most : ℕ) → NearWords s r most → Puts (wearing w s r) (λ m x. x ≤ most)
+wearing-low no-block s r most N = tt
+wearing-low block-p s r most N = N .wear (r .p)
 
 -- ---- what an act comes to
 
@@ -232,12 +236,8 @@ answer-low Zero s r most N = omega arith
 answer-low C s r most N = N .c
 answer-low Moved s r most N = either-way (free (r .h)) (λ f. rw f (omega arith)) (λ f. rw f (omega (arith, N .some)))
 
-read-words : (s : Store) (r : Thread) (most : ℕ) → NearWords s r most → LowWords most (onward (setC (s .content (r .p)) r)) nothing
-read-words s r most N = record { c = N .content (r .p); content = tt; wear = tt }
-
-freed-words : (s : Store) (r : Thread) (most : ℕ) → NearWords s r most →
-    LowWords most (onward r) (onFreed (r .p) (worn (s .wear (r .p))))
-freed-words s r most N = record { c = N .c; content = tt; wear = N .wear (r .p) }
+read-low : (s : Store) (r : Thread) (most : ℕ) → NearWords s r most → LowWords most (onward (setC (s .content (r .p)) r)) nothing
+read-low s r most N = record { c = N .content (r .p); content = tt }
 
 -- two needs are met where both tests hold
 both-met : (x y : Bool) → x && y ≡ true → not (x && (y && true)) ≡ false
@@ -261,29 +261,12 @@ picks s t r f = go (lowest-finds (s .header) (s .blocks))
         let unmet : fails s t r (asks PickFree) ≡ true = rw (f, none-free (s .header) (s .blocks) all) in
         rw (f, e, le-ltb (s .blocks) (s .blocks) (omega arith)) (unmet, refl)
 
-abbrev Among : ℕ → Found → Type 0
-Among k Nobody = Unit {0}
-Among k (At m) = m < k
-
-best-among : (eligible : ℕ → Bool) (beats : ℕ → ℕ → Bool) (k : ℕ) → Among k (best eligible beats k)
-best-among eligible beats k = go (best-finds eligible beats k)
-  where
-    go : Best eligible beats k → Among k (best eligible beats k)
-    go (finds m b _ e) = rw e b
-    go (finds-nobody _ e) = rw e tt
-
-from-low : (wear : ℕ → ℕ) (distance blocks to : ℕ) (from : Found) → to < blocks → Among blocks from →
-    fromBlock wear distance to from < blocks
-from-low wear distance blocks to Nobody b x = b
-from-low wear distance blocks to (At f) b x = either-way (ltb (wear to) (wear f + distance)) (λ y. rw y b) (λ y. rw y x)
-
 chooses : (s : Store) (t : ℕ) (r : Thread) → heldBy t (s .owner) ≡ true → Lands Choose s t r (perform Choose s t r)
-chooses s t r f = go (best-finds (λ k. free (s .header k)) (λ k m. ltb (s .wear m) (s .wear k)) (s .blocks))
+chooses s t r f = go (to-finds (s .header) (s .wear) (s .blocks))
   where
-    go : Best (λ k. free (s .header k)) (λ k m. ltb (s .wear m) (s .wear k)) (s .blocks) → Lands Choose s t r (perform Choose s t r)
+    go : To (s .header) (s .wear) (s .blocks) → Lands Choose s t r (perform Choose s t r)
     go (finds m b x e) =
-        let from = leastWorn (s .header) (s .wear) (s .blocks) in
-        let low = from-low (s .wear) (s .distance) (s .blocks) m from b (best-among _ _ (s .blocks)) in
+        let low = from-below (s .header) (s .wear) (s .distance) (s .blocks) m b in
         let met : fails s t r (asks Choose) ≡ false = rw (f, some-free (s .header) (s .blocks) m b x) in
         rw (f, e) (search (inl, arith))
     go (finds-nobody all e) =
@@ -315,9 +298,9 @@ lands Choose s t r = either-way (heldBy t (s .owner)) (λ f. chooses s t r f) (�
 lands ReadHeader s t r = either-way (heldBy t (s .owner)) (λ f. rw f (search (inl, arith))) (λ f. rw f search)
 lands WriteHeaderN s t r = either-way (heads s t (r .p)) (λ f. rw f (search (inl, arith, both-met))) (λ f. rw f (search both-unmet))
 lands WriteHeaderH s t r = either-way (heads s t (r .q)) (λ f. rw f (search (inl, arith, both-met))) (λ f. rw f (search both-unmet))
-lands FreeHeader s t r = either-way (heads s t (r .p)) (λ f. rw f (search (inl, arith, both-met, freed-words))) (λ f. rw f (search both-unmet))
+lands FreeHeader s t r = either-way (heads s t (r .p)) (λ f. rw f (search (inl, arith, both-met))) (λ f. rw f (search both-unmet))
 lands EmptyContent s t r = either-way (touches s t (r .p)) (λ f. rw f (search (inl, arith, both-met))) (λ f. rw f (search both-unmet))
-lands ReadContent s t r = either-way (touches s t (r .p)) (λ f. rw f (search (inl, arith, both-met, read-words))) (λ f. rw f (search both-unmet))
+lands ReadContent s t r = either-way (touches s t (r .p)) (λ f. rw f (search (inl, arith, both-met, read-low))) (λ f. rw f (search both-unmet))
 lands (WriteContent P) s t r = either-way (touches s t (block P r)) (λ f. rw f (search (inl, arith, both-met))) (λ f. rw f (search both-unmet))
 lands (WriteContent Q) s t r = either-way (touches s t (block Q r)) (λ f. rw f (search (inl, arith, both-met))) (λ f. rw f (search both-unmet))
 lands (MapTo P) s t r = search (inl, arith)

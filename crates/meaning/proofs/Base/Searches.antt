@@ -2,14 +2,14 @@
 -- no number has two blocks, and there are more blocks than numbers.
 -- Assumes nothing.
 use mathlib.Core.Path.{_≡_, refl, sym, _∙_}
-use mathlib.Core.Bool.{Bool, true, false, cond}
-use Prim.Native.Nat.{ℕ, zero, suc, _<_, _≤_}
+use mathlib.Core.Bool.{Bool, true, false, not, cond}
+use Prim.Native.Nat.{ℕ, zero, suc, _+_, _<_, _≤_}
 use native.Mathlib.Omega.{arith}
-use lib.Dec.{eqb}
+use lib.Dec.{eqb, ltb}
 use borrow.Author.Tests.{eqb-true, eqb-false, lt-ltb, le-ltb}
 use Rattle.meaning.specs.declared.Found.the-variants.{Nobody, At}
 use Rattle.meaning.specs.Holding.{free, naming, named}
-use Rattle.meaning.specs.Choosing.{lowestFree, best}
+use Rattle.meaning.specs.Choosing.{lowestFree, best, toBlock, leastWorn, fromBlock}
 use Rattle.meaning.proofs.Base.Words.{either-way, naming-named, named-below}
 
 -- ---- pigeons
@@ -107,3 +107,26 @@ best-finds eligible beats (suc k) = go (best-finds eligible beats k)
         (λ x. finds m (omega arith) f (rw (e, x)))
     go (finds-nobody all e) =
         either-way (eligible k) (λ x. finds k (omega arith) x (rw (e, x))) (λ x. finds-nobody (more eligible k all x) (rw (e, x)))
+
+-- "to", and "from" before the distance is looked at
+abbrev pub To : (ℕ → ℕ) → (ℕ → ℕ) → ℕ → Type 0
+To header wear k = Finds (λ m. free (header m)) k (λ m. toBlock header wear k ≡ At m) (toBlock header wear k ≡ Nobody)
+
+pub to-finds : (header wear : ℕ → ℕ) (k : ℕ) → To header wear k
+to-finds header wear k = best-finds _ _ k
+
+abbrev pub LeastWorn : (ℕ → ℕ) → (ℕ → ℕ) → ℕ → Type 0
+LeastWorn header wear k =
+    Finds (λ m. not (free (header m))) k (λ m. leastWorn header wear k ≡ At m) (leastWorn header wear k ≡ Nobody)
+
+pub least-worn-finds : (header wear : ℕ → ℕ) (k : ℕ) → LeastWorn header wear k
+least-worn-finds header wear k = best-finds _ _ k
+
+-- what levelling moves from is one of the blocks
+pub from-below : (header wear : ℕ → ℕ) (distance blocks to : ℕ) → to < blocks →
+    fromBlock wear distance to (leastWorn header wear blocks) < blocks
+from-below header wear distance blocks to below = go (least-worn-finds header wear blocks)
+  where
+    go : LeastWorn header wear blocks → fromBlock wear distance to (leastWorn header wear blocks) < blocks
+    go (finds m b f e) = rw e (either-way (ltb (wear to) (wear m + distance)) (λ x. rw x below) (λ x. rw x b))
+    go (finds-nobody all e) = rw e below

@@ -2,21 +2,21 @@
 -- the free block that they ask for.
 -- Assumes nothing.
 use mathlib.Core.Path.{_≡_, refl, sym, _∙_, subst}
-use mathlib.Core.Bool.{Bool, true, false, not, _&&_, _||_, and-true}
+use mathlib.Core.Bool.{Bool, true, false, _&&_, _||_, and-true}
 use mathlib.Core.Logic.{inl, inr}
 use Prim.Native.Nat.{ℕ, _+_, _<_}
 use native.Mathlib.Omega.{arith}
-use lib.Dec.{eqb, ltb}
+use lib.Dec.{eqb}
 use borrow.Author.Tests.{eqb-true}
 use Rattle.meaning.specs.declared.Found.the-variants.{At}
 use Rattle.meaning.specs.Limits.{least, mostThreads, mostNumbers, mostBlocks, mostDistance, within, inLimits}
 use Rattle.meaning.specs.Store.{Store}
 use Rattle.meaning.specs.Holding.{none, free, heldBy, naming}
-use Rattle.meaning.specs.Choosing.{lowestFree, toBlock, leastWorn, fromBlock}
-use Rattle.meaning.proofs.Base.Words.{same, either-way, clash, and-left, and-right, or-way, within-true, free-held, held-once, alone-free, free-none, naming-once, naming-not-none}
+use Rattle.meaning.specs.Choosing.{lowestFree, toBlock}
+use Rattle.meaning.proofs.Base.Words.{same, clash, and-left, and-right, or-way, within-true, free-held, held-once, alone-free, free-none, naming-once, naming-not-none}
 use Rattle.meaning.proofs.Invariant.{holdsH, holdsN, ownsHeaders, ownsP, ownsQ, n-on-p, n-on-q, p-free, q-free, p-headed, q-headed, p-astray, q-astray, If, leadsAstray, GuardsContent, Back, Astray, Inv}
 use Rattle.meaning.proofs.Invariant.Keeping.{up}
-use Rattle.meaning.proofs.Base.Searches.{crowded, finds, finds-nobody, Lowest, lowest-finds, Best, best-finds}
+use Rattle.meaning.proofs.Base.Searches.{crowded, finds, finds-nobody, Lowest, lowest-finds, To, to-finds}
 
 -- there are more blocks than numbers, and some number
 pub limits-numbers-blocks : (t n p d : ℕ) → inLimits t n p d ≡ true → (n < p) × (0 < n)
@@ -155,19 +155,9 @@ module _ (s : Store) (I : Inv s) where
         go (finds-nobody all _) = absurd (not-full all)
 
     pub to-found : (m : ℕ) × (toBlock (s .header) (s .wear) (s .blocks) ≡ At m) × (m < s .blocks) × (s .header m ≡ none)
-    to-found = go (best-finds (λ k. free (s .header k)) (λ k m. ltb (s .wear m) (s .wear k)) (s .blocks))
+    to-found = go (to-finds (s .header) (s .wear) (s .blocks))
       where
-        go : Best (λ k. free (s .header k)) (λ k m. ltb (s .wear m) (s .wear k)) (s .blocks) →
+        go : To (s .header) (s .wear) (s .blocks) →
             (m : ℕ) × (toBlock (s .header) (s .wear) (s .blocks) ≡ At m) × (m < s .blocks) × (s .header m ≡ none)
         go (finds m b f e) = (m, e, b, free-none (s .header m) f)
         go (finds-nobody all _) = absurd (not-full all)
-
-  pub from-below : (to : ℕ) → to < s .blocks →
-      fromBlock (s .wear) (s .distance) to (leastWorn (s .header) (s .wear) (s .blocks)) < s .blocks
-  from-below to below = go (best-finds (λ k. not (free (s .header k))) (λ k m. ltb (s .wear k) (s .wear m)) (s .blocks))
-    where
-      go : Best (λ k. not (free (s .header k))) (λ k m. ltb (s .wear k) (s .wear m)) (s .blocks) →
-          fromBlock (s .wear) (s .distance) to (leastWorn (s .header) (s .wear) (s .blocks)) < s .blocks
-      go (finds m b f e) =
-          rw e (either-way (ltb (s .wear to) (s .wear m + s .distance)) (λ x. rw x below) (λ x. rw x b))
-      go (finds-nobody all e) = rw e below

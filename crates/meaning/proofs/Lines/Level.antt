@@ -12,7 +12,8 @@ use Rattle.meaning.specs.declared.Found.the-variants.{At}
 use Rattle.meaning.specs.Programs.{LEVEL, actAt}
 use Rattle.meaning.specs.Step.{onContent, onMap, perform, apply}
 use Rattle.meaning.proofs.Base.Words.{either-way, same, naming-named, named-below, naming-not-free, naming-once, upd-same, upd-other}
-use Rattle.meaning.proofs.Invariant.Sharing.{owner-free, mapped-block-free, free-block-free, settled-owner, numbers-blocks, to-found, from-below, content-guarded}
+use Rattle.meaning.proofs.Invariant.Sharing.{owner-free, mapped-block-free, free-block-free, settled-owner, numbers-blocks, to-found, content-guarded}
+use Rattle.meaning.proofs.Base.Searches.{from-below}
 use Rattle.meaning.proofs.Lines.{for-H, for-N, Fine, at, Line, From, _▸_, n-held, p-held, q-held, second-taken, second-given, mapped-headed, mapped-freed, headed-apart, headed-agrees, freed-agrees, moved-agrees, moved-mapped, status-moved, facts-idle, keeping}
 
 module _ (s : Store) (t : ℕ) where
@@ -31,7 +32,7 @@ module _ (s : Store) (t : ℕ) where
       chosen : (to : ℕ) → toBlock (s .header) (s .wear) (s .blocks) ≡ At to → to < s .blocks → s .header to ≡ none →
           Fine s t (at LEVEL 3 n c p q h) (perform (actAt LEVEL 3) s t (at LEVEL 3 n c p q h))
       chosen to found below empty =
-          let from = from-below s (H .inv) to below in
+          let from = from-below (s .header) (s .wear) (s .distance) (s .blocks) to below in
           rw (H .holds .owner, found) (search (keeping, H .holds .locks))
 
   L4 : Line s t LEVEL 4

@@ -32,7 +32,7 @@ use Rattle.meaning.proofs.Lines.EveryLine.{fine}
 use Rattle.meaning.proofs.Progress.{up-busy}
 use Rattle.meaning.proofs.EitherOrder.{Goes, goes, ends, Going, told-going, goes-unblocked}
 use Rattle.meaning.proofs.Acts.{Shape, shape, Quiet, Onto, Lands, lands, isTake, waits-take}
-use Rattle.meaning.proofs.Base.Searches.{Best, best-finds, finds, finds-nobody}
+use Rattle.meaning.proofs.Base.Searches.{LeastWorn, least-worn-finds, finds, finds-nobody}
 
 -- ---- what is said
 
@@ -147,9 +147,9 @@ chosen-moves s p q to from empty =
     rw (to, from) (either-way (eqb p q)
     (λ e. let z : s .header p ≡ none = rw (eqb-true p q e) empty in rw (e, z))
     (λ e. rw e (sym (go (eqb-false p q e)
-    (best-finds (λ k. not (free (s .header k))) (λ k m. ltb (s .wear k) (s .wear m)) (s .blocks))))))
+    (least-worn-finds (s .header) (s .wear) (s .blocks))))))
   where
-    go : (p ≡ q → ⊥) → Best (λ k. not (free (s .header k))) (λ k m. ltb (s .wear k) (s .wear m)) (s .blocks) →
+    go : (p ≡ q → ⊥) → LeastWorn (s .header) (s .wear) (s .blocks) →
         not (free (s .header p)) ≡ true
     go apart (finds m b f e) =
         either-way (ltb (s .wear q) (s .wear m + s .distance)) (λ x. absurd (apart (sym (rw (e, x) at from))))

@@ -1,9 +1,10 @@
--- The acts walked, once: what `perform` comes to of each act (`lands`), and when it comes to the same at two stores (`same-deed`). All that
--- is proved of every act is read off these two, so a change of an act is paid here and at the lines that have it.
---  * A verdict is BLOCKED or FAULT exactly where specs/Needs says.
---  * Else the line has the act's shape: what it may do to its thread's record beside going on to the next line, whether it ends, and to
---    which tables it writes.
---  * Where the words near the line are in bounds, so are those of its next record, its effect and its answer.
+-- What is so of every act, in two walks over the acts: what `perform` comes to of an act (`lands`), and when it comes to the same at two
+-- stores (`same-deed`). All else that is proved of every act, here and in other crates, is read off these two; so a change of an act is paid
+-- here, and at the lines that have it.
+--  * An act is BLOCKED and meets FAULT exactly where specs/Needs says.
+--  * Else its line has the act's row, `shape`: what it may do to its thread's record beside going on to the next line, whether it ends and
+--    with what, to which tables it writes, which block it wears and what it looks at.
+--  * Where the numbers and words near the line are in bounds, so are those of its next record, its effect and its answer.
 -- Assumes nothing.
 use mathlib.Core.Path.{_≡_, refl, sym}
 use mathlib.Core.Bool.{Bool, true, false, not, cond, _&&_, and-false}
@@ -65,7 +66,7 @@ pub record Shape : Type 0 where
   pub jump : ℕ → ℕ
   pub looks : List Sight
 
--- a line that goes on
+-- of a line that goes on: quiet?, keepsN, keepsC and the rest
 abbrev shaped : Bool → Bool → Bool → Wears → (ℕ → ℕ) → List Sight → Shape
 shaped quiet n c wears jump looks =
     record { ends? = false; answers = Zero; quiet? = quiet; keepsN = n; keepsC = c; wears = wears; jump = jump; looks = looks }

@@ -6,7 +6,7 @@
 --    with what, to which tables it writes, which block it wears and what it looks at.
 --  * Where the numbers and words near the line are in bounds, so are those of its next record, its effect and its answer.
 -- Assumes nothing.
-use mathlib.Core.Path.{_≡_, refl, sym}
+use mathlib.Core.Path.{_≡_, refl, sym, subst}
 use mathlib.Core.Bool.{Bool, true, false, not, cond, _&&_, and-false}
 use mathlib.Core.List.{List, [], _∷_}
 use mathlib.Core.Logic.{_⊎_, inl, inr, _↔_}
@@ -311,22 +311,22 @@ lands Unmap s t r = search (inl, arith)
 -- so FAULT comes exactly where a need of specs/Needs fails, and BLOCKED exactly where a take's lock isn't free
 module _ (a : Act) (s : Store) (t : ℕ) (r : Thread) where
   pub faults-exactly : (perform a s t r ≡ Fault) ↔ (fails s t r (asks a) ≡ true)
-  faults-exactly = go (perform a s t r) (lands a s t r)
+  faults-exactly = (λ x. subst (Lands a s t r) x (lands a s t r) .0, faults (perform a s t r) (lands a s t r))
     where
-      go : (v : Verdict) → Lands a s t r v → (v ≡ Fault) ↔ (fails s t r (asks a) ≡ true)
-      go Blocked l = (λ x. absurd (let z : _≡_ {A = ℕ} 0 1 = cc in omega arith), λ f. clash f (l .0))
-      go Fault l = (λ x. l .0, λ f. refl)
-      go (Go r′ e) l = (λ x. absurd (let z : _≡_ {A = ℕ} 0 1 = cc in omega arith), λ f. clash f (l .ready .met))
-      go (Done value e) l = (λ x. absurd (let z : _≡_ {A = ℕ} 0 1 = cc in omega arith), λ f. clash f (l .ready .met))
+      faults : (v : Verdict) → Lands a s t r v → fails s t r (asks a) ≡ true → v ≡ Fault
+      faults Blocked l f = clash f (l .0)
+      faults Fault l f = refl
+      faults (Go r′ e) l f = clash f (l .ready .met)
+      faults (Done value e) l f = clash f (l .ready .met)
 
   pub blocks-exactly : (perform a s t r ≡ Blocked) ↔ (waits s r (asks a) ≡ true)
-  blocks-exactly = go (perform a s t r) (lands a s t r)
+  blocks-exactly = (λ x. subst (Lands a s t r) x (lands a s t r) .1, blocks (perform a s t r) (lands a s t r))
     where
-      go : (v : Verdict) → Lands a s t r v → (v ≡ Blocked) ↔ (waits s r (asks a) ≡ true)
-      go Blocked l = (λ x. l .1, λ f. refl)
-      go Fault l = (λ x. absurd (let z : _≡_ {A = ℕ} 0 1 = cc in omega arith), λ f. clash f (l .1))
-      go (Go r′ e) l = (λ x. absurd (let z : _≡_ {A = ℕ} 0 1 = cc in omega arith), λ f. clash f (l .ready .unblocked))
-      go (Done value e) l = (λ x. absurd (let z : _≡_ {A = ℕ} 0 1 = cc in omega arith), λ f. clash f (l .ready .unblocked))
+      blocks : (v : Verdict) → Lands a s t r v → waits s r (asks a) ≡ true → v ≡ Blocked
+      blocks Blocked l w = refl
+      blocks Fault l w = clash w (l .1)
+      blocks (Go r′ e) l w = clash w (l .ready .unblocked)
+      blocks (Done value e) l w = clash w (l .ready .unblocked)
 
   pub unfaulted : (perform a s t r ≡ Fault → ⊥) → fails s t r (asks a) ≡ false
   unfaulted x = either-way (fails s t r (asks a)) (λ f. absurd (x (faults-exactly .1 f))) (λ f. f)

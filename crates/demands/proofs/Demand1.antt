@@ -2,7 +2,7 @@
 --  * refusals: each refusal number comes back exactly where the table of 01, "Numbers given back", says; for every area and argument.
 --  * refusal-keeps: a number of 2 or more, BLOCKED included, leaves the area as it was; for every area and argument.
 --  * unfinished-value: the value is 0 except where an operation finishes, for format, begin and step; for every area and argument.
---  * finishing-values: what a finishing step gives: a write and an unmap 0, a read register c, a levelling whether h is free; for every area.
+--  * finishing-values: what a finishing step gives: a write and an unmap 0, a read register c, a levelling 1 where h isn't free and else 0; for every area.
 --  * wear-counted, wear-never-falls: a block's wear goes up by one exactly where a step frees it, until the largest word, and is never lowered;
 --    of every area of bytes, grown or made by hand.
 --  * formed-kept: a call never turns a well-formed area into a malformed one, grown from fresh or made by hand.

@@ -2,7 +2,8 @@
 --  * refusals: each refusal number comes back exactly where the table of 01, "Numbers given back", says; for every area and argument.
 --  * refusal-keeps: a number of 2 or more, BLOCKED included, leaves the area as it was; for every area and argument.
 --  * unfinished-value: the value is 0 except where an operation finishes, for format, begin and step; for every area and argument.
---  * finishing-values: what a finishing step gives: a write and an unmap 0, a read register c, a levelling 1 where h isn't free and else 0; for every area.
+--  * finishing-values: what a finishing step gives: a write and an unmap 0, a read register c, a levelling 1 where h isn't free and else 0;
+--    for every area.
 --  * wear-counted, wear-never-falls: a block's wear goes up by one exactly where a step frees it, until the largest word, and is never lowered;
 --    of every area of bytes, grown or made by hand.
 --  * formed-kept: a call never turns a well-formed area into a malformed one, grown from fresh or made by hand.
@@ -70,15 +71,19 @@ module _ (a : List ℕ) where
         step = λ t. call-refusing a (step t) .unfinished;
       }
 
+  -- what a finishing step of thread t gives, by what the outcome of its call on the store says
+  abbrev AtEnd : ℕ → ℕ → ℕ → Type 0
+  AtEnd t number value = number ≡ FINISHED → value ≡ finishesWith (decode a .thread t)
+
+  at-end : (t : ℕ) (o : Outcome) → AtEnd t (reply (λ s. s) (decode a) o .number) (reply (λ s. s) (decode a) o .value) →
+      AtEnd t (reply encode a o .number) (reply encode a o .value)
+  at-end t (refused number) x = x
+  at-end t (left number value s) x = x
+
   pub finishing-values : (t : ℕ) → stepArea a t .number ≡ FINISHED → stepArea a t .value ≡ finishesWith (decode a .thread t)
   finishing-values t =
-      either-way (wellFormed a)
-      (λ f. rw f (told-alike (stepping (decode a) t) (finishing-value (decode a) t (formed-stands a f t)))) (λ f. rw f (λ x. absurd (omega arith)))
-    where
-      told-alike : (o : Outcome) → (reply (λ s. s) (decode a) o .number ≡ FINISHED → reply (λ s. s) (decode a) o .value ≡ finishesWith (decode a .thread t)) →
-          reply encode a o .number ≡ FINISHED → reply encode a o .value ≡ finishesWith (decode a .thread t)
-      told-alike (refused number) x = x
-      told-alike (left number value s) x = x
+      either-way (wellFormed a) (λ f. rw f (at-end t (stepping (decode a) t) (finishing-value (decode a) t (formed-stands a f t))))
+      (λ f. rw f (λ x. absurd (omega arith)))
 
 -- ---- what a call keeps, of any area of bytes
 

@@ -1,8 +1,8 @@
--- What the demands' theorems are not empty of, as data: areas grown from fresh at which two threads meet, operations that overlap, and a
--- block that is written again.
+-- What the demands' theorems are not empty of, as data: areas grown from fresh at which two threads meet, operations that overlap, a block
+-- that is written again, and wear at its largest.
 use mathlib.Core.Bool.{Bool, true, false, _&&_}
 use mathlib.Core.List.{List, [], _∷_}
-use Prim.Native.Nat.{ℕ, zero, suc}
+use Prim.Native.Nat.{ℕ, zero, suc, _+_}
 use lib.ListN.{replicate}
 use lib.Dec.{eqb}
 use Rattle.meaning.specs.Numbers.{WENT, FINISHED, BLOCKED}
@@ -11,9 +11,10 @@ use Rattle.meaning.specs.Call.{Reply, Entry, begin, step}
 use Rattle.meaning.specs.Schedule.{Operation, operation, Answered, run, order, finishedBy, steps}
 use Rattle.meaning.specs.Demands.{one-by-one}
 use Rattle.store.specs.Layout.{size}
-use Rattle.store.specs.Area.{decode}
+use Rattle.store.specs.Area.{bytes, decode}
 use Rattle.store.specs.Calls.{formatArea, callArea, stepArea}
 use Rattle.demands.specs.RefusalTables.{rests}
+use Rattle.demands.specs.NeedSamples.{inP, made, headerAt, with}
 
 -- ---- two threads that meet
 
@@ -225,3 +226,10 @@ reused =
     ∷ goesAt 13 0 0
     ∷ goesAt 14 0 8
     ∷ []
+
+-- ---- wear at its largest
+
+-- the wear of p after a step of thread 0 at a line at which it frees p, from this wear on, on an area made by hand
+abbrev pub freedFrom : ℕ → ℕ → ℕ → ℕ
+freedFrom op line wear =
+    decode (stepArea (bytes (with (made 1 op line) ((headerAt inP + 2, wear) ∷ []))) 0 .after) .wear inP

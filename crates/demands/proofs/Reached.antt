@@ -9,7 +9,8 @@
 --  * after-U10-comes: a read finishes with empty after U10, while the unmap is still open, and stands after it in the order.
 --  * reuse-comes, reuse-grown: an area grown from fresh at W8 of a write whose block still holds what was written before it was freed; W8
 --    empties it, and it is empty until W14.
---  * largest-wear-stays: on areas made by hand, U7 and L13 leave the largest wear as it is, and the one below goes up to it.
+--  * largest-wear-stays, finished-with, ties-chosen: on areas made by hand, U7 and L13 leave the largest wear as it is, and the one below goes up to
+--    it; what each operation finishes with, with 7 in register c; and L3 chooses the lowest numbers on ties.
 -- Assumes nothing.
 use mathlib.Core.Path.{_≡_, refl}
 use mathlib.Core.Bool.{Bool, true, _&&_}
@@ -21,7 +22,7 @@ use lib.ListN.{replicate}
 use borrow.Author.Tests.{leb-true, eqb-true}
 use Rattle.meaning.specs.Numbers.{WENT}
 use Rattle.meaning.specs.Limits.{mostWord}
-use Rattle.meaning.specs.Programs.{UNMAP, LEVEL}
+use Rattle.meaning.specs.Programs.{WRITE, READ, UNMAP, LEVEL}
 use Rattle.meaning.specs.Call.{Entry, begin, step}
 use Rattle.meaning.specs.Schedule.{formatted, run}
 use Rattle.meaning.proofs.Base.Words.{and-left, and-right}
@@ -29,7 +30,7 @@ use Rattle.store.specs.Layout.{size}
 use Rattle.store.specs.Area.{Bytes, wellFormed}
 use Rattle.store.specs.Calls.{format, callArea, Grown}
 use Rattle.demands.specs.NeedSamples.{needs, given, asked}
-use Rattle.demands.specs.Reached.{Meeting, formed, reached, meet, meetings, Each, overlap, overtaking, overtaken, slipping, slipped, contents, reusing, reused, freedFrom}
+use Rattle.demands.specs.Reached.{Meeting, formed, reached, meet, meetings, Each, overlap, overtaking, overtaken, slipping, slipped, contents, reusing, reused, freedFrom, finishedWith, tied, chosen}
 use Rattle.demands.specs.History.{AllWords}
 use Rattle.demands.proofs.Bridge.{run-grown}
 
@@ -116,7 +117,7 @@ pub reuse-grown : Grown (run callArea (formed 1 1 2 1 .after) reusing)
 unfolding startsWell areWords
 reuse-grown = run-formed 1 1 2 1 reusing refl
 
--- ---- wear at its largest
+-- ---- one step on an area made by hand
 
 -- "Wear at 4,294,967,295 stays there", at U7 and at L13, and one below goes up to it
 pub largest-wear-stays :
@@ -124,3 +125,15 @@ pub largest-wear-stays :
     ≡ 4294967295 ∷ 4294967295 ∷ 4294967295 ∷ 4294967295 ∷ []
 unfolding wellFormed
 largest-wear-stays = refl
+
+-- W16, R6 and U11, and L18 where nothing was moved and where something was
+pub finished-with :
+    finishedWith WRITE 16 0 ∷ finishedWith READ 6 0 ∷ finishedWith UNMAP 11 0 ∷ finishedWith LEVEL 18 0 ∷ finishedWith LEVEL 18 1 ∷ []
+    ≡ (1, 0) ∷ (1, 7) ∷ (1, 0) ∷ (1, 0) ∷ (1, 1) ∷ []
+unfolding wellFormed
+finished-with = refl
+
+-- "lowest number on ties"
+pub ties-chosen : chosen tied ≡ (2, 0)
+unfolding wellFormed
+ties-chosen = refl

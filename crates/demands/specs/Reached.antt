@@ -1,5 +1,5 @@
 -- What the demands' theorems are not empty of, as data: areas grown from fresh at which two threads meet, operations that overlap, a block
--- that is written again, and wear at its largest.
+-- that is written again, and single steps on areas made by hand.
 use mathlib.Core.Bool.{Bool, true, false, _&&_}
 use mathlib.Core.List.{List, [], _∷_}
 use Prim.Native.Nat.{ℕ, zero, suc, _+_}
@@ -10,7 +10,7 @@ use Rattle.meaning.specs.Programs.{WRITE, READ, UNMAP, LEVEL}
 use Rattle.meaning.specs.Call.{Reply, Entry, begin, step}
 use Rattle.meaning.specs.Schedule.{Operation, operation, Answered, run, order, finishedBy, steps}
 use Rattle.meaning.specs.Demands.{one-by-one}
-use Rattle.store.specs.Layout.{size}
+use Rattle.store.specs.Layout.{threadsAt, size}
 use Rattle.store.specs.Area.{bytes, decode}
 use Rattle.store.specs.Calls.{formatArea, callArea, stepArea}
 use Rattle.demands.specs.RefusalTables.{rests}
@@ -227,9 +227,35 @@ reused =
     ∷ goesAt 14 0 8
     ∷ []
 
--- ---- wear at its largest
+-- ---- one step on an area made by hand
 
--- the wear of p after a step of thread 0 at a line at which it frees p, from this wear on, on an area made by hand
+-- the wear of p after a step of thread 0 at a line at which it frees p, from this wear on
 abbrev pub freedFrom : ℕ → ℕ → ℕ → ℕ
 freedFrom op line wear =
     decode (stepArea (bytes (with (made 1 op line) ((headerAt inP + 2, wear) ∷ []))) 0 .after) .wear inP
+
+-- number and value of a step of thread 0 at a line, with 7 in register c and this in register h
+abbrev pub finishedWith : ℕ → ℕ → ℕ → ℕ × ℕ
+finishedWith op line h =
+    let x = stepArea (bytes (with (made 1 op line) ((threadsAt + 3, 7) ∷ (threadsAt + 6, h) ∷ []))) 0 in
+    (x .number, x .value)
+
+-- five blocks with ties: 0 and 1 are free with wear 3, 2 and 3 are mapped with wear 1, 4 is free with wear 2. Thread 0 is at L3 and owns the
+-- headers
+abbrev pub tied : List ℕ
+tied =
+    1 ∷ 2 ∷ 5 ∷ 2 ∷ 1 ∷ 1  -- T, N, P, D, header lock, headers' owner
+    ∷ LEVEL ∷ 3 ∷ 0 ∷ 0 ∷ 0 ∷ 0 ∷ 0  -- thread 0
+    ∷ 3 ∷ 4 ∷ 0 ∷ 0  -- numbers 0 and 1 are on blocks 2 and 3; their locks
+    ∷ 0 ∷ 0 ∷ 3 ∷ 0  -- block 0
+    ∷ 0 ∷ 0 ∷ 3 ∷ 0
+    ∷ 1 ∷ 0 ∷ 1 ∷ 0
+    ∷ 2 ∷ 0 ∷ 1 ∷ 0
+    ∷ 0 ∷ 0 ∷ 2 ∷ 0
+    ∷ []
+
+-- p and q after its step
+abbrev pub chosen : List ℕ → ℕ × ℕ
+chosen words =
+    let r = decode (stepArea (bytes words) 0 .after) .thread 0 in
+    (r .p, r .q)

@@ -7,13 +7,12 @@
 --  * Where the numbers and words near the line are in bounds, so are those of its next record, its effect and its answer.
 -- Assumes nothing.
 use mathlib.Core.Path.{_≡_, refl, sym, subst}
-use mathlib.Core.Bool.{Bool, true, false, not, cond, _&&_, and-false}
+use mathlib.Core.Bool.{Bool, true, false, not, cond, _&&_}
 use mathlib.Core.List.{List, [], _∷_}
 use mathlib.Core.Logic.{_⊎_, inl, inr, _↔_}
-use Prim.Native.Nat.{ℕ, zero, suc, _+_, _<_, _≤_}
+use Prim.Native.Nat.{ℕ, _+_, _<_, _≤_}
 use native.Mathlib.Omega.{arith}
-use lib.Dec.{eqb}
-use borrow.Author.Tests.{lt-ltb, le-ltb, eqb-true, eqb-false}
+use borrow.Author.Tests.{not-false, lt-ltb, le-ltb}
 use Rattle.meaning.specs.declared.Reg.the-variants.{P, Q}
 use Rattle.meaning.specs.declared.Answer.{Answer}
 use Rattle.meaning.specs.declared.Answer.the-variants.{Zero, C, Moved}
@@ -30,7 +29,7 @@ use Rattle.meaning.specs.Store.{Store, idle}
 use Rattle.meaning.specs.Holding.{free, heldBy}
 use Rattle.meaning.specs.Step.{onward, setC, block, nothing, worn, answer, touches, heads, perform}
 use Rattle.meaning.specs.Needs.{Need, met, allMet, Asks, takes-H, takes-N, needs, no-line, asks, fails, waits}
-use Rattle.meaning.proofs.Base.Words.{either-way, clash, and-left, and-right, named-below}
+use Rattle.meaning.proofs.Base.Words.{either-way, clash, every-at, all-every, and-left, and-right, named-below}
 use Rattle.meaning.proofs.Base.Searches.{finds, finds-nobody, Lowest, lowest-finds, To, to-finds, from-below}
 use Rattle.meaning.proofs.Invariant.{If, Becomes, Puts}
 
@@ -222,15 +221,11 @@ Lands a s t r (Done value e) = Stops a s t r value e
 
 -- some block of the first k is free where the search finds one, and none where it finds nobody
 some-free : (header : ℕ → ℕ) (k m : ℕ) → m < k → free (header m) ≡ true → every k (λ m. not (free (header m))) ≡ false
-some-free header zero m b f = absurd (omega arith)
-some-free header (suc k) m b f =
-    either-way (eqb m k)
-    (λ e. rw (← eqb-true m k e, f) (and-false (every m (λ m. not (free (header m))))))
-    (λ e. let x : m ≡ k → ⊥ = eqb-false m k e in rw (some-free header k m (omega arith) f))
+some-free header k m b f =
+    either-way (every k (λ m. not (free (header m)))) (λ e. clash (every-at k (λ m. not (free (header m))) e m b) (rw f)) (λ e. e)
 
 none-free : (header : ℕ → ℕ) (k : ℕ) → ((m : ℕ) → m < k → free (header m) ≡ false) → every k (λ m. not (free (header m))) ≡ true
-none-free header zero all = refl
-none-free header (suc k) all = rw (none-free header k (λ m b. all m (omega arith)), all k (omega arith))
+none-free header k all = all-every k (λ m. not (free (header m))) (λ m b. rw (all m b))
 
 answer-low : (a : Answer) (s : Store) (r : Thread) (most : ℕ) → NearWords s r most → answer a r ≤ most
 answer-low Zero s r most N = omega arith
@@ -375,18 +370,14 @@ Granted s t r takes-N = free (s .locks (r .n)) ≡ true
 Granted s t r (needs l) = AllGranted s t r l
 Granted s t r no-line = ⊥
 
-pub un-not : (x : Bool) → not x ≡ false → x ≡ true
-un-not true e = refl
-un-not false e = sym e
-
 all-granted : (s : Store) (t : ℕ) (r : Thread) (l : List Need) → allMet s t r l ≡ true → AllGranted s t r l
 all-granted s t r [] e = tt
 all-granted s t r (x ∷ l) e = (and-left (met s t r x) _ e, all-granted s t r l (and-right (met s t r x) _ e))
 
 granted : (s : Store) (t : ℕ) (r : Thread) (a : Asks) → fails s t r a ≡ false → waits s r a ≡ false → Granted s t r a
-granted s t r takes-H m f = un-not (free (s .lock)) f
-granted s t r takes-N m f = un-not (free (s .locks (r .n))) f
-granted s t r (needs l) m f = all-granted s t r l (un-not (allMet s t r l) m)
+granted s t r takes-H m f = not-false (free (s .lock)) f
+granted s t r takes-N m f = not-false (free (s .locks (r .n))) f
+granted s t r (needs l) m f = all-granted s t r l (not-false (allMet s t r l) m)
 granted s t r no-line m f = clash refl m
 
 -- so is what it does, where it is ready at both; the stores are of the same size

@@ -9,7 +9,7 @@ use mathlib.Core.List.{List, [], _∷_}
 use Prim.Native.Nat.{ℕ, _<_}
 use native.Mathlib.Omega.{arith}
 use lib.Dec.{eqb, leb}
-use borrow.Author.Tests.{eqb-true, eq-eqb, ne-eqb, lt-ltb}
+use borrow.Author.Tests.{not-false, eqb-true, eq-eqb, ne-eqb, lt-ltb}
 use Rattle.meaning.specs.declared.Thread.{Thread}
 use Rattle.meaning.specs.declared.Word.{Word}
 use Rattle.meaning.specs.declared.Word.the-variants.{Stay, Become}
@@ -30,7 +30,7 @@ use Rattle.meaning.proofs.Base.Words.{either-way, by-held, clash, and-l
 use Rattle.meaning.proofs.Base.Schedules.{replyOf, by-step}
 use Rattle.meaning.proofs.Invariant.{takesH, takesN, takesLock, holdsH, ownsHeaders, ownsP, Passes, takes, gives-up, Becomes, Puts, Guards, GuardsMap, GuardsHeader, GuardsContent, GuardsWear, Inv}
 use Rattle.meaning.proofs.Invariant.Keeping.{reads-map, everyLine, everywhere, standing, p-owned, Moves, moves-inv, map-kept, header-kept, wear-kept, content-kept}
-use Rattle.meaning.proofs.Acts.{Sight, map-of-n, headers, all-wear, content-of-p, shape, Ready, was-ready, unfaulted, un-not, Same, SameSights, same-deed}
+use Rattle.meaning.proofs.Acts.{Sight, map-of-n, headers, all-wear, content-of-p, shape, Ready, was-ready, unfaulted, Same, SameSights, same-deed}
 use Rattle.meaning.proofs.Lines.{Fine}
 use Rattle.meaning.proofs.Lines.EveryLine.{fine}
 use Rattle.meaning.proofs.Progress.{no-fault, CanStep}
@@ -133,8 +133,8 @@ module _ (s : Store) (I : Inv s) (t : ℕ) (r′ : Thread) (e : Effect) (M : Mov
 
   still-unblocked : (a : Asks) → taking (standing (s .thread u .op) (s .thread u .line)) a ≡ true → waits s (s .thread u) a ≡ false →
       waits (apply s t r′ e) (s .thread u) a ≡ false
-  still-unblocked takes-H g w = rw (lock-free g (un-not (free (s .lock)) w))
-  still-unblocked takes-N g w = rw (locks-free g (un-not (free (s .locks (s .thread u .n))) w))
+  still-unblocked takes-H g w = rw (lock-free g (not-false (free (s .lock)) w))
+  still-unblocked takes-N g w = rw (locks-free g (not-false (free (s .locks (s .thread u .n))) w))
   still-unblocked (needs l) g w = w
   still-unblocked no-line g w = w
 

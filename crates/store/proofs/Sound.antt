@@ -4,11 +4,10 @@ use mathlib.Core.Path.{_≡_, refl, _∙_, sym}
 use mathlib.Core.Bool.{Bool, true, false, _&&_, and-false}
 use mathlib.Core.List.{List}
 use mathlib.Core.Logic.{_⊎_, inl, inr, _↔_}
-use Prim.Native.Nat.{ℕ, zero, suc, _+_, _<_, _≤_}
+use Prim.Native.Nat.{ℕ, _+_, _<_, _≤_}
 use native.Mathlib.Omega.{arith}
 use lib.Dec.{leb, ltb, eqb}
 use lib.ListN.{length}
-use borrow.Author.Count.{below-more}
 use borrow.Author.Tests.{leb-true, le-leb, ltb-true, lt-ltb, eqb-true, eq-eqb, ne-eqb}
 use Rattle.meaning.specs.declared.Thread.{Thread}
 use Rattle.meaning.specs.Table.{every}
@@ -16,7 +15,7 @@ use Rattle.meaning.specs.Limits.{least, mostThreads, mostNumbers, mostBlocks, m
 use Rattle.meaning.specs.Store.{Store, idle}
 use Rattle.meaning.specs.Programs.{WRITE, LEVEL, lastLine}
 use Rattle.meaning.specs.Call.{isIdle}
-use Rattle.meaning.proofs.Base.Words.{either-way, clash, and-left, and-right, within-true}
+use Rattle.meaning.proofs.Base.Words.{either-way, clash, every-at, all-every, and-left, and-right, within-true}
 use Rattle.meaning.proofs.Invariant.{Stands}
 use Rattle.meaning.proofs.Acts.{NearBounded}
 use Rattle.store.specs.Layout.{tAt, nAt, pAt, dAt, size, largest}
@@ -46,16 +45,6 @@ and-seven a b c d e f g h₇ =
       and-right (a && b && c && d && e) f h₆,
       and-right (a && b && c && d && e && f) g h₇,
     )
-
-pub every-true : (n : ℕ) (test : ℕ → Bool) → every n test ≡ true → (k : ℕ) → k < n → test k ≡ true
-every-true zero test e k h = absurd (omega arith)
-every-true (suc n) test e k h =
-    below-more (λ (j : ℕ). test j ≡ true) n (every-true n test (and-left (every n test) (test n) e))
-    (and-right (every n test) (test n) e) k (omega arith)
-
-pub true-every : (n : ℕ) (test : ℕ → Bool) → ((k : ℕ) → k < n → test k ≡ true) → every n test ≡ true
-true-every zero test h = refl
-true-every (suc n) test h = and-both (true-every n test (λ k l. h k (omega arith))) (h n (omega arith))
 
 -- ---- sizes
 
@@ -191,10 +180,10 @@ pub record Sound (s : Store) : Type 0 where
 
 -- every entry of a table is at most a bound
 table-bound : (f : ℕ → ℕ) (size bound : ℕ) → every size (λ k. leb (f k) bound) ≡ true → (k : ℕ) → k < size → f k ≤ bound
-table-bound f size bound e k h = leb-true (f k) bound (every-true size (λ j. leb (f j) bound) e k h)
+table-bound f size bound e k h = leb-true (f k) bound (every-at size (λ j. leb (f j) bound) e k h)
 
 bound-table : (f : ℕ → ℕ) (size bound : ℕ) → ((k : ℕ) → k < size → f k ≤ bound) → every size (λ k. leb (f k) bound) ≡ true
-bound-table f size bound h = true-every size (λ j. leb (f j) bound) (λ k l. le-leb (f k) bound (h k l))
+bound-table f size bound h = all-every size (λ j. leb (f j) bound) (λ k l. le-leb (f k) bound (h k l))
 
 pub sound-facts : (s : Store) → sound s ≡ true → Sound s
 sound-facts s e =
@@ -212,7 +201,7 @@ sound-facts s e =
       lock = leb-true _ _ (z .0);
       owner = leb-true _ _ (z .1);
       thread =
-          λ t h. thread-sound _ _ _ (every-true (s .threads) (λ t. soundThread (s .numbers) (s .blocks) (s .thread t)) (z .2) t h);
+          λ t h. thread-sound _ _ _ (every-at (s .threads) (λ t. soundThread (s .numbers) (s .blocks) (s .thread t)) (z .2) t h);
       map = table-bound (s .map) _ _ (z .3);
       locks = table-bound (s .locks) _ _ (z .4);
       header = table-bound (s .header) _ _ (z .5);
@@ -228,7 +217,7 @@ facts-sound s f =
     (and-both
     (and-both
     (and-both (le-leb _ _ (f .lock)) (le-leb _ _ (f .owner)))
-    (true-every (s .threads) (λ t. soundThread (s .numbers) (s .blocks) (s .thread t)) (λ t h. sound-thread _ _ _ (f .thread t h))))
+    (all-every (s .threads) (λ t. soundThread (s .numbers) (s .blocks) (s .thread t)) (λ t h. sound-thread _ _ _ (f .thread t h))))
     (bound-table (s .map) _ _ (f .map)))
     (bound-table (s .locks) _ _ (f .locks)))
     (bound-table (s .header) _ _ (f .header)))

@@ -7,7 +7,7 @@ use mathlib.Core.List.{List, [], _∷_, _++_, append-assoc}
 use Prim.Native.Nat.{ℕ, zero, suc, _+_, _<_}
 use native.Mathlib.Omega.{arith}
 use lib.Dec.{eqb, ltb, leb}
-use borrow.Author.Tests.{ltb-true, eqb-true}
+use borrow.Author.Tests.{ltb-true, eqb-true, eq-eqb}
 use Rattle.meaning.specs.declared.Verdict.{Verdict}
 use Rattle.meaning.specs.declared.Verdict.the-variants.{Blocked, Fault, Go, Done}
 use Rattle.meaning.specs.Numbers.{WENT, FINISHED, THREAD, BUSY, IDLE, LOGICAL, OPERATION}
@@ -138,3 +138,28 @@ module _ (s : Store) where
   pub refused-number : (t k : ℕ) → leb k FINISHED ≡ true → leb (callStore s (step t) .number) FINISHED ≡ false →
       eqb (callStore s (step t) .number) k ≡ false
   refused-number t k small x = refused-not (callStore s (step t) .number) x k small
+
+-- ---- a call that finishes nothing of a thread's
+
+pub not-begin : (t u op n c : ℕ) → begin u op n c ≡ step t → ⊥
+not-begin t u op n c x = let z : _≡_ {A = ℕ} 0 1 = cc in omega arith
+
+pub not-step : (t u : ℕ) → (u ≡ t → ⊥) → step u ≡ step t → ⊥
+not-step t u apart x = apart (cc)
+
+emit-none : {A : Type 0} (b : Bool) (x : A) (l : List A) → emit b x l ≡ [] → (b ≡ false) × (l ≡ [])
+emit-none true x l is = absurd (let z : _≡_ {A = ℕ} 0 1 = cc in omega arith)
+emit-none false x l is = (refl, is)
+
+-- where t has finished nothing, the call was no step that finished t's operation, and nothing is finished after it
+pub finishing-none : (s : Store) (t : ℕ) (e : Entry) (l : List Answered) → finishing callStore (λ s. s) s t e l ≡ [] →
+    (e ≡ step t → callStore s e .number ≡ FINISHED → ⊥) × (l ≡ [])
+finishing-none s t (begin u op n c) l is = (λ x. absurd (not-begin t u op n c x), is)
+finishing-none s t (step u) l is =
+    let z = emit-none (eqb (callStore s (step u) .number) FINISHED && eqb u t) _ l is in (
+      λ x w.
+          let own : u ≡ t = cc in
+          let both : (eqb (callStore s (step u) .number) FINISHED && eqb u t) ≡ true = rw (w, eq-eqb u t own) in
+          clash both (z .0),
+      z .1,
+    )

@@ -2,11 +2,11 @@
 -- Assumes nothing.
 use mathlib.Core.Path.{_≡_, refl, sym, _∙_}
 use mathlib.Core.Bool.{Bool, true, false, not, _&&_, _||_}
-use Prim.Native.Nat.{ℕ, _+_, _-_, _<_, _≤_}
+use Prim.Native.Nat.{ℕ, zero, suc, _+_, _-_, _<_, _≤_}
 use native.Mathlib.Omega.{arith}
 use lib.Dec.{eqb, leb}
 use borrow.Author.Tests.{leb-true, eqb-true, eqb-false, eq-eqb, ne-eqb}
-use Rattle.meaning.specs.Table.{upd}
+use Rattle.meaning.specs.Table.{upd, every}
 use Rattle.meaning.specs.Limits.{within}
 use Rattle.meaning.specs.Holding.{none, free, by, heldBy, naming, named}
 
@@ -51,6 +51,17 @@ and-right false b e = clash e refl
 pub or-way : (a b : Bool) {A : Type 0} → (a || b) ≡ true → (a ≡ true → A) → (b ≡ true → A) → A
 or-way true b e f g = f refl
 or-way false b e f g = g e
+
+-- a test of all numbers below a size
+pub every-at : (k : ℕ) (test : ℕ → Bool) → every k test ≡ true → (l : ℕ) → l < k → test l ≡ true
+every-at zero test all l below = absurd (omega arith)
+every-at (suc k) test all l below =
+    either-way (eqb l k) (λ e. rw (eqb-true l k e) (and-right (every k test) (test k) all))
+    (λ e. let apart : l ≡ k → ⊥ = eqb-false l k e in every-at k test (and-left (every k test) (test k) all) l (omega arith))
+
+pub all-every : (k : ℕ) (test : ℕ → Bool) → ((l : ℕ) → l < k → test l ≡ true) → every k test ≡ true
+all-every zero test all = refl
+all-every (suc k) test all = rw (all-every k test (λ l b. all l (omega arith)), all k (omega arith))
 
 pub within-true : (low high x : ℕ) → within low high x ≡ true → (low ≤ x) × (x ≤ high)
 within-true low high x e =

@@ -5,7 +5,7 @@
 use mathlib.Core.Path.{_≡_, refl, sym, ap, _∙_, subst, fun-ext}
 use mathlib.Core.Bool.{Bool, true, false, not, cond, _&&_, _||_, or-true}
 use mathlib.Core.Logic.{inl, inr}
-use Prim.Native.Nat.{ℕ, zero, suc, _+_, _-_, _<_, _≤_}
+use Prim.Native.Nat.{ℕ, _+_, _-_, _<_, _≤_}
 use native.Mathlib.Omega.{arith}
 use lib.Dec.{eqb}
 use borrow.Author.Tests.{eqb-true, eqb-false}
@@ -22,7 +22,7 @@ use Rattle.meaning.specs.Holding.{free, heldBy, naming, named}
 use Rattle.meaning.specs.Programs.{WRITE, LEVEL, lastLine}
 use Rattle.meaning.specs.Step.{become, put, apply}
 use Rattle.meaning.specs.Demands.{kept}
-use Rattle.meaning.proofs.Base.Words.{same, either-way, and-left, and-right, or-way, within-true, by-other, none-held, free-held, held-is, held-once, naming-named, upd-other, upd-each}
+use Rattle.meaning.proofs.Base.Words.{same, either-way, every-at, and-left, and-right, or-way, within-true, by-other, none-held, free-held, held-is, held-once, naming-named, upd-other, upd-each}
 use Rattle.meaning.proofs.Invariant.{takesH, takesN, takesLock, takes, gives-up, holdsH, holdsN, ownsHeaders, ownsP, ownsQ, n-unmapped, n-on-p, n-on-q, p-free, q-free, p-headed, q-headed, h-heads-p, chosen-now, c-of-p, q-has-c, c-of-n, If, ownsBlock, leadsAstray, Holds, Facts, Stands, Becomes, Puts, Passes, GuardsMap, GuardsHeader, GuardsContent, GuardsWear, Guards, Agrees, Back, Astray, Inv}
 use Rattle.meaning.proofs.Manager.View.{status, leaves, promised}
 
@@ -34,12 +34,6 @@ standing op line = record { op = op; line = line; n = 0; c = 0; p = 0; q = 0; h 
 -- the test at idle and at each line of each operation
 abbrev pub everyLine : (ℕ → ℕ → Bool) → Bool
 everyLine test = test 0 0 && every LEVEL (λ k. every (lastLine (k + 1)) (λ l. test (k + 1) (l + 1)))
-
-every-at : (k : ℕ) (test : ℕ → Bool) → every k test ≡ true → (l : ℕ) → l < k → test l ≡ true
-every-at zero test all l below = absurd (omega arith)
-every-at (suc k) test all l below =
-    either-way (eqb l k) (λ e. rw (eqb-true l k e) (and-right (every k test) (test k) all))
-    (λ e. let apart : l ≡ k → ⊥ = eqb-false l k e in every-at k test (and-left (every k test) (test k) all) l (omega arith))
 
 pub everywhere : (test : ℕ → ℕ → Bool) → everyLine test ≡ true → (r : Thread) → Stands r → test (r .op) (r .line) ≡ true
 everywhere test all r (inl i) = rw i (and-left (test 0 0) _ all)

@@ -7,7 +7,7 @@ use mathlib.Core.List.{List, [], _∷_}
 use Prim.Native.Nat.{ℕ, zero, suc, _+_, _<_}
 use native.Mathlib.Omega.{arith}
 use lib.Dec.{eqb, ltb, leb}
-use borrow.Author.Tests.{eqb-true, eqb-false, leb-true}
+use borrow.Author.Tests.{not-false, eqb-true, eqb-false, leb-true}
 use Rattle.meaning.specs.declared.Act.{Act}
 use Rattle.meaning.specs.declared.Thread.{Thread}
 use Rattle.meaning.specs.declared.Word.{Word}
@@ -28,7 +28,7 @@ use Rattle.meaning.proofs.Base.Words.{same, either-way, and-left, and-r
 use Rattle.meaning.proofs.Base.Schedules.{replyOf}
 use Rattle.meaning.proofs.Invariant.{holdsH, holdsLock, ownsHeaders, ownsBlock, takesH, takesLock, Passes, takes, gives-up, Becomes, Puts, Guards, Inv}
 use Rattle.meaning.proofs.Invariant.Keeping.{everywhere}
-use Rattle.meaning.proofs.Acts.{Sight, map-of-n, headers, all-wear, content-of-p, shape, was-ready, un-not, SameSights, same-deed}
+use Rattle.meaning.proofs.Acts.{Sight, map-of-n, headers, all-wear, content-of-p, shape, was-ready, SameSights, same-deed}
 use Rattle.meaning.proofs.Lines.EveryLine.{idle-is}
 use Rattle.meaning.proofs.Progress.{inv-call, no-fault}
 use Rattle.meaning.proofs.EitherOrder.{Going, left-by, going-reply, going-moves, goes-unblocked}
@@ -87,12 +87,12 @@ module _ (s : Store) (t : ℕ) (r : Thread) where
   fails-alone : (a : Asks) → fails s t r a ≡ false → fails (alone t s) t r a ≡ false
   fails-alone takes-H m = m
   fails-alone takes-N m = m
-  fails-alone (needs l) m = rw (all-alone l (un-not (allMet s t r l) m))
+  fails-alone (needs l) m = rw (all-alone l (not-false (allMet s t r l) m))
   fails-alone no-line m = m
 
   waits-alone : (a : Asks) → waits s r a ≡ false → waits (alone t s) r a ≡ false
-  waits-alone takes-H w = rw (mine-free t (s .lock) (un-not (free (s .lock)) w))
-  waits-alone takes-N w = rw (mine-free t (s .locks (r .n)) (un-not (free (s .locks (r .n))) w))
+  waits-alone takes-H w = rw (mine-free t (s .lock) (not-false (free (s .lock)) w))
+  waits-alone takes-N w = rw (mine-free t (s .locks (r .n)) (not-false (free (s .locks (r .n))) w))
   waits-alone (needs l) w = w
   waits-alone no-line w = w
 

@@ -4,13 +4,13 @@
 -- step (`placed-steps`).
 -- Assumes nothing.
 use mathlib.Core.Path.{_≡_, refl, sym, _∙_, subst}
-use mathlib.Core.Bool.{Bool, true, false, _&&_, _||_, or-false}
+use mathlib.Core.Bool.{true, false, _&&_, _||_, or-false}
 use mathlib.Core.List.{List, [], _∷_}
 use mathlib.Core.Logic.{inl, inr}
 use Prim.Native.Nat.{ℕ}
 use native.Mathlib.Omega.{arith}
 use lib.Dec.{eqb, leb}
-use borrow.Author.Tests.{eqb-true, eqb-false, eq-eqb}
+use borrow.Author.Tests.{eqb-true, eqb-false}
 use Rattle.meaning.specs.declared.Act.the-variants.{TakeN}
 use Rattle.meaning.specs.declared.Thread.{Thread}
 use Rattle.meaning.specs.declared.Effect.{Effect}
@@ -21,10 +21,10 @@ use Rattle.meaning.specs.Store.{Store, idle}
 use Rattle.meaning.specs.Programs.{WRITE, LEVEL, lastLine, actAt, lastTake, unmovedTake}
 use Rattle.meaning.specs.Step.{nothing, apply}
 use Rattle.meaning.specs.Call.{Reply, Entry, begin, step, callStore, isIdle, begun, reply}
-use Rattle.meaning.specs.Schedule.{AtTake, Answered, emit, takesLast, placed, run, finishing, finishedBy}
+use Rattle.meaning.specs.Schedule.{AtTake, takesLast, placed, run, finishedBy}
 use Rattle.meaning.specs.Demands.{PlaceChanges}
 use Rattle.meaning.proofs.Base.Words.{either-way, clash, and-left, and-right, or-way, within-true, upd-same, upd-other}
-use Rattle.meaning.proofs.Base.Schedules.{by-begin, step-stays}
+use Rattle.meaning.proofs.Base.Schedules.{by-begin, step-stays, not-begin, not-step, finishing-none}
 use Rattle.meaning.proofs.Invariant.{Inv}
 use Rattle.meaning.proofs.Lines.{_▸_, from-at}
 use Rattle.meaning.proofs.Lines.EveryLine.{idle-is, open-line, begins}
@@ -89,13 +89,6 @@ turns-changes s s′ e number t (loses is w had lacks) =
       lost = (λ x. (is, w), λ x. (had, lacks));
     }
 
--- a call that isn't t's step
-not-begin : (t u op n c : ℕ) → begin u op n c ≡ step t → ⊥
-not-begin t u op n c x = let z : _≡_ {A = ℕ} 0 1 = cc in omega arith
-
-not-step : (t u : ℕ) → (u ≡ t → ⊥) → step u ≡ step t → ⊥
-not-step t u apart x = apart (cc)
-
 module _ (s : Store) (I : Inv s) (t : ℕ) where
   -- nothing changes
   refused-turns : (e : Entry) (number : ℕ) → leb number FINISHED ≡ false → Turns s s e number t
@@ -156,10 +149,6 @@ module _ (s : Store) (I : Inv s) (t : ℕ) where
 
 -- ---- until it finishes
 
-emit-none : (b : Bool) (x : Answered) (l : List Answered) → emit b x l ≡ [] → (b ≡ false) × (l ≡ [])
-emit-none true x l is = absurd (let z : _≡_ {A = ℕ} 0 1 = cc in omega arith)
-emit-none false x l is = (refl, is)
-
 -- a call that finishes nothing of t's leaves it its place
 placed-once : (s : Store) → Inv s → (t : ℕ) (e : Entry) → placed s (s .thread t) ≡ true →
     (e ≡ step t → callStore s e .number ≡ FINISHED → ⊥) →
@@ -168,22 +157,10 @@ placed-once s I t e has unfinished =
     either-way (placed (callStore s e .after) (callStore s e .after .thread t)) (λ x. x)
     (λ x. let z = place-changes s I t e .lost .0 (has, x) in absurd (unfinished (z .0) (z .1)))
 
-unfinished-once : (s : Store) (t : ℕ) (e : Entry) (l : List Answered) → finishing callStore (λ s. s) s t e l ≡ [] →
-    (e ≡ step t → callStore s e .number ≡ FINISHED → ⊥) × (l ≡ [])
-unfinished-once s t (begin u op n c) l is = (λ x. absurd (not-begin t u op n c x), is)
-unfinished-once s t (step u) l is =
-    let z = emit-none (eqb (callStore s (step u) .number) FINISHED && eqb u t) _ l is in (
-      λ x w.
-          let own : u ≡ t = cc in
-          let both : (eqb (callStore s (step u) .number) FINISHED && eqb u t) ≡ true = rw (w, eq-eqb u t own) in
-          clash both (z .0),
-      z .1,
-    )
-
 pub placed-until-finished : (w : List Entry) (s : Store) → Inv s → (t : ℕ) → placed s (s .thread t) ≡ true →
     finishedBy callStore (λ s. s) s t w ≡ [] → placed (run callStore s w) (run callStore s w .thread t) ≡ true
 placed-until-finished [] s I t has none = has
 placed-until-finished (e ∷ w) s I t has none =
     let s′ = callStore s e .after in
-    let z = unfinished-once s t e (finishedBy callStore (λ s. s) s′ t w) none in
+    let z = finishing-none s t e (finishedBy callStore (λ s. s) s′ t w) none in
     placed-until-finished w s′ (inv-call s I e) t (placed-once s I t e has (z .0)) (z .1)

@@ -4,12 +4,11 @@
 -- of a line.
 -- Assumes nothing.
 use mathlib.Core.Path.{_≡_, refl, sym, ap, _∙_, subst}
-use mathlib.Core.Bool.{Bool, true, false, _&&_, _||_, and-true}
+use mathlib.Core.Bool.{Bool, true, false, _&&_, _||_}
 use mathlib.Core.List.{List, [], _∷_}
 use Prim.Native.Nat.{ℕ, _≤_}
 use native.Mathlib.Omega.{arith}
 use lib.Dec.{eqb, leb}
-use lib.ListN.{length}
 use borrow.Author.Tests.{leb-true, eqb-true, eqb-false, ne-eqb, le-leb, lt-ltb}
 use Rattle.meaning.specs.declared.Thread.{Thread}
 use Rattle.meaning.specs.declared.Verdict.{Verdict}
@@ -24,10 +23,10 @@ use Rattle.meaning.specs.Programs.{WRITE, actAt}
 use Rattle.meaning.specs.Manager.{empty}
 use Rattle.meaning.specs.Step.{nothing, onward, onContent, need, next, touches, perform, verdict, apply}
 use Rattle.meaning.specs.Call.{Entry, begin, step, callStore, reply, told, begun}
-use Rattle.meaning.specs.Schedule.{Answered, emit, run, finishing, finishedBy}
+use Rattle.meaning.specs.Schedule.{run, finishedBy}
 use Rattle.meaning.specs.Demands.{EmptyTillW14}
 use Rattle.meaning.proofs.Base.Words.{same, either-way, clash, and-left, and-right, or-way, held-once, upd-same}
-use Rattle.meaning.proofs.Base.Schedules.{by-step}
+use Rattle.meaning.proofs.Base.Schedules.{by-step, finishing-none}
 use Rattle.meaning.proofs.Invariant.{holdsN, n-on-p, p-headed, GuardsContent, Inv}
 use Rattle.meaning.proofs.Invariant.Keeping.{up, put-kept, Moves}
 use Rattle.meaning.proofs.Invariant.Sharing.{fact}
@@ -44,11 +43,6 @@ record DoneW8 (content : ℕ → ℕ) (r : Thread) : Type 0 where
 
 abbrev HasDoneW8 : ℕ → Store → Type 0
 HasDoneW8 t s = DoneW8 (s .content) (s .thread t)
-
--- a list that nothing was put in front of
-emit-none : {A : Type 0} (b : Bool) (x : A) (l : List A) → emit b x l ≡ [] → (b ≡ false) × (l ≡ [])
-emit-none true x l e = absurd (let z = ap length e in omega arith)
-emit-none false x l e = (refl, e)
 
 -- ---- its own lines
 
@@ -145,29 +139,24 @@ module _ (s : Store) (I : Inv s) (t : ℕ) (D : HasDoneW8 t s) where
   others-keep (goes u r′ e _ _ g is) a = rw is (moved-keeps u a r′ e (g .moves))
   others-keep (ends u value e _ _ g is) a = rw is (moved-keeps u a idle e (g .moves))
 
-  call-keeps : (e : Entry) (l : List Answered) → finishing callStore (λ s. s) s t e l ≡ [] → HasDoneW8 t (callStore s e .after)
-  call-keeps (begin u op n c) l x = others-keep (call-cases s I (begin u op n c)) tt
-  call-keeps (step u) l x =
+  call-keeps : (e : Entry) → (e ≡ step t → callStore s e .number ≡ FINISHED → ⊥) → HasDoneW8 t (callStore s e .after)
+  call-keeps (begin u op n c) unfinished = others-keep (call-cases s I (begin u op n c)) tt
+  call-keeps (step u) unfinished =
       either-way (eqb u t)
       (λ y.
       let e = eqb-true u t y in
-      let z = rw y at (emit-none (eqb (callStore s (step u) .number) FINISHED && eqb u t) _ l x .0) in
-      rw e (own-keeps (rw e at (sym (and-true (eqb (callStore s (step u) .number) FINISHED)) ∙ z))))
+      rw e (own-keeps (ne-eqb (callStore s (step t) .number) FINISHED (λ f. unfinished (ap step e) (rw e f)))))
       (λ y. others-keep (call-cases s I (step u)) (eqb-false u t y))
 
 -- ---- a schedule, from W8 on
-
-finished-none : (s : Store) (t : ℕ) (e : Entry) (l : List Answered) → finishing callStore (λ s. s) s t e l ≡ [] → l ≡ []
-finished-none s t (begin u op n c) l x = x
-finished-none s t (step u) l x = emit-none (eqb (callStore s (step u) .number) FINISHED && eqb u t) _ l x .1
 
 run-keeps : (s : Store) → Inv s → (t : ℕ) → HasDoneW8 t s → (w : List Entry) → finishedBy callStore (λ s. s) s t w ≡ [] →
     HasDoneW8 t (run callStore s w)
 run-keeps s I t D [] x = D
 run-keeps s I t D (e ∷ w) x =
     let s′ = callStore s e .after in
-    let l = finishedBy callStore (λ s. s) s′ t w in
-    run-keeps s′ (inv-call s I e) t (call-keeps s I t D e l x) w (finished-none s t e l x)
+    let z = finishing-none s t e (finishedBy callStore (λ s. s) s′ t w) x in
+    run-keeps s′ (inv-call s I e) t (call-keeps s I t D e (z .0)) w (z .1)
 
 module _ (s : Store) (I : Inv s) (t : ℕ) (op : s .thread t .op ≡ WRITE) (line : s .thread t .line ≡ 8) where
   told-emptied : (b : Bool) → Fine s t (s .thread t) (need b (next (s .thread t) (onContent (s .thread t .p) empty))) →

@@ -3,7 +3,6 @@
 use mathlib.Core.Path.{_≡_, refl, _∙_, sym, ap, subst}
 use mathlib.Core.Bool.{Bool, true, false, not, _&&_, _||_}
 use mathlib.Core.List.{List}
-use mathlib.Core.Logic.{inl, inr}
 use Prim.Native.Nat.{ℕ, suc, _+_, _*_, _<_, _≤_}
 use native.Mathlib.Omega.{arith}
 use lib.Dec.{eqb, ltb, leb, leb·suc-suc}
@@ -25,7 +24,7 @@ use Rattle.store.specs.Area.{Bytes, word, threadFrom, encode, decode, wellForme
 use Rattle.store.specs.Live.{Live, Within}
 use Rattle.store.specs.Calls.{formatArea, callArea}
 use Rattle.store.proofs.LastLines.{few-lines}
-use Rattle.store.proofs.Sound.{Sound, Working, SoundThread, wellFormed-sound, near-bounded}
+use Rattle.store.proofs.Sound.{Sound, Working, open-working, wellFormed-sound, near-bounded}
 use Rattle.store.proofs.Codec.{encode-decode}
 use Rattle.machine.specs.declared.Sizes.{Sizes}
 use Rattle.machine.specs.Judging.{Steady, AtLine}
@@ -170,11 +169,9 @@ module _ {a : List ℕ} {k : ℕ} {z : Sizes} (o : Opened a k z) {r : Thread} (i
   -- ---- a thread that works, and what is judged of it
   module _ (busy : r .op ≡ 0 → ⊥) where
     works : Working (word a nAt) (word a pAt) r
-    works = by-kind (facts a (o .well) .thread k low)
-      where
-        by-kind : SoundThread (word a nAt) (word a pAt) (decode a .thread k) → Working (word a nAt) (word a pAt) r
-        by-kind (inl e) = absurd (busy (ap (λ x. x .op) (read ∙ e)))
-        by-kind (inr w) = subst (Working (word a nAt) (word a pAt)) (sym read) w
+    works =
+        subst (Working (word a nAt) (word a pAt)) (sym read)
+        (open-working (facts a (o .well) .thread k low) (ap isIdle (sym read) ∙ ne-eqb _ _ busy))
 
     pub judge-asks : Live a (z .t) (z .n) (z .p) × Steady k r × AtLine r
     judge-asks =

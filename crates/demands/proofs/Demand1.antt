@@ -12,7 +12,7 @@
 --  * grown-no-fault: no step of an area grown from fresh answers FAULT.
 --  * grown-progress: where some thread of an area grown from fresh has open work, some open thread's step answers WENT or FINISHED.
 -- What FAULT, BLOCKED and open threads look like is computed in Reached.
-use mathlib.Core.Path.{_≡_, refl, sym, subst}
+use mathlib.Core.Path.{_≡_, refl, sym, _∙_, subst}
 use mathlib.Core.Bool.{Bool, true, false, _&&_}
 use mathlib.Core.List.{List}
 use Prim.Native.Nat.{ℕ, _≤_}
@@ -35,7 +35,7 @@ use Rattle.store.specs.Area.{Bytes, encode, decode, wellFormed}
 use Rattle.store.specs.Calls.{formatArea, callArea, stepArea, Grown}
 use Rattle.store.proofs.Sound.{formed-stands}
 use Rattle.demands.specs.RefusalTables.{known, rests, operable, numbered, Refusals, UnfinishedValue, Open, CanStep, SameSizes}
-use Rattle.demands.proofs.Refusals.{given, refusal-tables, calling-each, call-refusing}
+use Rattle.demands.proofs.Refusals.{refusal-tables, calling-each, call-refusing}
 use Rattle.demands.proofs.Bridge.{after-call, grown-good, grown-inv}
 
 -- ---- what a call answers and leaves, of every area
@@ -71,29 +71,22 @@ module _ (a : List ℕ) where
         step = λ t. call-refusing a (step t) .unfinished;
       }
 
-  -- what a finishing step of thread t gives, by what the outcome of its call on the store says
-  abbrev AtEnd : ℕ → ℕ → ℕ → Type 0
-  AtEnd t number value = number ≡ FINISHED → value ≡ finishesWith (decode a .thread t)
+  -- the number and the value are those of the call on the store
+  told-alike : (o : Outcome) →
+      (reply encode a o .number ≡ reply (λ s. s) (decode a) o .number) × (reply encode a o .value ≡ reply (λ s. s) (decode a) o .value)
+  told-alike (refused number) = (refl, refl)
+  told-alike (left number value s) = (refl, refl)
 
-  at-end : (t : ℕ) (o : Outcome) → AtEnd t (reply (λ s. s) (decode a) o .number) (reply (λ s. s) (decode a) o .value) →
-      AtEnd t (reply encode a o .number) (reply encode a o .value)
-  at-end t (refused number) x = x
-  at-end t (left number value s) x = x
+  pub number-decoded : wellFormed a ≡ true → (e : Entry) → callArea a e .number ≡ callStore (decode a) e .number
+  number-decoded f e = rw f (told-alike (calling (decode a) e) .0)
 
   pub finishing-values : (t : ℕ) → stepArea a t .number ≡ FINISHED → stepArea a t .value ≡ finishesWith (decode a .thread t)
   finishing-values t =
-      either-way (wellFormed a) (λ f. rw f (at-end t (stepping (decode a) t) (finishing-value (decode a) t (formed-stands a f t))))
+      let z = told-alike (stepping (decode a) t) in
+      either-way (wellFormed a) (λ f. rw f (λ x. z .1 ∙ finishing-value (decode a) t (formed-stands a f t) (sym (z .0) ∙ x)))
       (λ f. rw f (λ x. absurd (omega arith)))
 
 -- ---- what a call keeps, of any area of bytes
-
--- the number is that of the call on the store
-pub number-decoded : (a : List ℕ) → wellFormed a ≡ true → (e : Entry) → callArea a e .number ≡ callStore (decode a) e .number
-number-decoded a f e = rw f (go (calling (decode a) e))
-  where
-    go : (o : Outcome) → given a o ≡ reply (λ s. s) (decode a) o .number
-    go (refused number) = refl
-    go (left number value s) = refl
 
 pub formed-kept : (a : List ℕ) → Bytes a → wellFormed a ≡ true → (e : Entry) → Words e →
     (wellFormed (callArea a e .after) ≡ true) × Bytes (callArea a e .after)

@@ -29,13 +29,13 @@ use Rattle.meaning.proofs.Base.Words.{and-left, and-right}
 use Rattle.store.specs.Layout.{size}
 use Rattle.store.specs.Area.{Bytes, wellFormed}
 use Rattle.store.specs.Calls.{format, callArea, Grown}
-use Rattle.demands.specs.NeedSamples.{needs, given, asked}
-use Rattle.demands.specs.Reached.{Meeting, formed, reached, meet, meetings, Each, overlap, overtaking, overtaken, slipping, slipped, contents, reusing, reused, freedFrom, finishedWith, tied, chosen}
+use Rattle.demands.specs.NeedSamples.{lineNeeds, allGiven, allWanted}
+use Rattle.demands.specs.Reached.{Meeting, formed, reached, meet, meetings, Each, overlap, overtaking, overtaken, slipping, slipped, contents, reusing, reused, freedFrom, finishedWith, tied, choice}
 use Rattle.demands.specs.History.{AllWords}
 use Rattle.demands.proofs.Bridge.{run-grown}
 
-pub needs-fault : (given 0 ≡ asked) × (given 1 ≡ asked)
-unfolding needs wellFormed
+pub needs-fault : (allGiven 0 ≡ allWanted) × (allGiven 1 ≡ allWanted)
+unfolding lineNeeds wellFormed
 needs-fault = (refl, refl)
 
 pub meetings-come : map (λ m. meet (reached m)) meetings ≡ map (λ m. m .comes) meetings
@@ -134,6 +134,6 @@ unfolding wellFormed
 finished-with = refl
 
 -- "lowest number on ties"
-pub ties-chosen : chosen tied ≡ (2, 0)
+pub ties-chosen : choice tied ≡ (2, 0)
 unfolding wellFormed
 ties-chosen = refl

@@ -42,61 +42,61 @@ abbrev pub ownAt : ℕ → ℕ
 ownAt m = headerAt m + 3
 
 -- places, and the words that stand there
-abbrev pub Put : Type 0
-Put = List (ℕ × ℕ)
+abbrev pub Written : Type 0
+Written = List (ℕ × ℕ)
 
-abbrev pub with : List ℕ → Put → List ℕ
+abbrev pub with : List ℕ → Written → List ℕ
 with a [] = a
 with a (x ∷ l) = with (set a (x .0) (x .1)) l
 
--- ---- needs
+-- ---- samples of a need
 
--- a need: the words with which it is met, and those with each of which it isn't
-pub record Need : Type 0 where
-  pub met : Put
-  pub unmet : List Put
+-- a need, by words: those with which it is met, and those with each of which it isn't
+pub record Sample : Type 0 where
+  pub having : Written
+  pub lacking : List Written
 
 -- held or owned by this thread: not by nobody, and not by thread 1
-abbrev pub held : ℕ → Need
-held at = record { met = (at, 1) ∷ []; unmet = ((at, 0) ∷ []) ∷ ((at, 2) ∷ []) ∷ [] }
+abbrev pub held : ℕ → Sample
+held at = record { having = (at, 1) ∷ []; lacking = ((at, 0) ∷ []) ∷ ((at, 2) ∷ []) ∷ [] }
 
 -- held or owned by nobody: not by this thread, and not by thread 1
-abbrev pub nobodys : ℕ → Need
-nobodys at = record { met = (at, 0) ∷ []; unmet = ((at, 1) ∷ []) ∷ ((at, 2) ∷ []) ∷ [] }
+abbrev pub nobodys : ℕ → Sample
+nobodys at = record { having = (at, 0) ∷ []; lacking = ((at, 1) ∷ []) ∷ ((at, 2) ∷ []) ∷ [] }
 
 -- a header that is not free
-abbrev pub used : ℕ → Need
-used m = record { met = (headerAt m, 1) ∷ []; unmet = ((headerAt m, 0) ∷ []) ∷ [] }
+abbrev pub used : ℕ → Sample
+used m = record { having = (headerAt m, 1) ∷ []; lacking = ((headerAt m, 0) ∷ []) ∷ [] }
 
 -- some free block, here the last
-abbrev pub someFree : Need
+abbrev pub someFree : Sample
 someFree =
     record {
-      met = (headerAt 0, 1) ∷ (headerAt 1, 1) ∷ (headerAt 2, 0) ∷ [];
-      unmet = ((headerAt 0, 1) ∷ (headerAt 1, 1) ∷ (headerAt 2, 1) ∷ []) ∷ [];
+      having = (headerAt 0, 1) ∷ (headerAt 1, 1) ∷ (headerAt 2, 0) ∷ [];
+      lacking = ((headerAt 0, 1) ∷ (headerAt 1, 1) ∷ (headerAt 2, 1) ∷ []) ∷ [];
     }
 
 -- what a line needs, the number of its step where all of that is met, and the number where one need isn't
 pub record Row : Type 0 where
-  pub needs : List Need
+  pub samples : List Sample
   pub number : ℕ
   pub otherwise : ℕ
 
-abbrev pub goes : List Need → Row
-goes needs = record { needs = needs; number = WENT; otherwise = FAULT }
+abbrev pub goes : List Sample → Row
+goes samples = record { samples = samples; number = WENT; otherwise = FAULT }
 
-abbrev pub finishes : List Need → Row
-finishes needs = record { needs = needs; number = FINISHED; otherwise = FAULT }
+abbrev pub finishes : List Sample → Row
+finishes samples = record { samples = samples; number = FINISHED; otherwise = FAULT }
 
 abbrev pub takes : ℕ → Row
-takes at = record { needs = nobodys at ∷ []; number = WENT; otherwise = BLOCKED }
+takes at = record { samples = nobodys at ∷ []; number = WENT; otherwise = BLOCKED }
 
 -- "content needs the block owned by this thread and its header not free; writing a header needs headers and block"
-abbrev pub content : ℕ → List Need
-content m = held (ownAt m) ∷ used m ∷ []
+abbrev pub contentNeeds : ℕ → List Sample
+contentNeeds m = held (ownAt m) ∷ used m ∷ []
 
-abbrev pub header : ℕ → List Need
-header m = held ownerAt ∷ held (ownAt m) ∷ []
+abbrev pub headerNeeds : ℕ → List Sample
+headerNeeds m = held ownerAt ∷ held (ownAt m) ∷ []
 
 -- ---- the rows, in the lines' order
 
@@ -108,14 +108,14 @@ writeNeeds =
     ∷ goes (nobodys ownerAt ∷ [])  -- W4
     ∷ goes (held ownerAt ∷ someFree ∷ [])  -- W5
     ∷ goes (nobodys (ownAt inP) ∷ [])  -- W6
-    ∷ goes (header inP)  -- W7
-    ∷ goes (content inP)  -- W8
+    ∷ goes (headerNeeds inP)  -- W7
+    ∷ goes (contentNeeds inP)  -- W8
     ∷ goes (held (ownAt inP) ∷ [])  -- W9
     ∷ goes []  -- W10
     ∷ goes (held ownerAt ∷ [])  -- W11
     ∷ goes (held lockAt ∷ [])  -- W12
     ∷ goes (nobodys (ownAt inP) ∷ [])  -- W13
-    ∷ goes (content inP)  -- W14
+    ∷ goes (contentNeeds inP)  -- W14
     ∷ goes (held (ownAt inP) ∷ [])  -- W15
     ∷ finishes (held lockOfAt ∷ [])  -- W16
     ∷ []
@@ -125,7 +125,7 @@ readNeeds =
     takes lockOfAt  -- R1
     ∷ goes []  -- R2
     ∷ goes (nobodys (ownAt inP) ∷ [])  -- R3
-    ∷ goes (content inP)  -- R4
+    ∷ goes (contentNeeds inP)  -- R4
     ∷ goes (held (ownAt inP) ∷ [])  -- R5
     ∷ finishes (held lockOfAt ∷ [])  -- R6
     ∷ []
@@ -138,7 +138,7 @@ unmapNeeds =
     ∷ goes (nobodys ownerAt ∷ [])  -- U4
     ∷ goes (nobodys (ownAt inP) ∷ [])  -- U5
     ∷ goes []  -- U6
-    ∷ goes (header inP)  -- U7
+    ∷ goes (headerNeeds inP)  -- U7
     ∷ goes (held (ownAt inP) ∷ [])  -- U8
     ∷ goes (held ownerAt ∷ [])  -- U9
     ∷ goes (held lockOfAt ∷ [])  -- U10
@@ -154,12 +154,12 @@ levelNeeds =
     ∷ goes []  -- L5
     ∷ takes lockOfAt  -- L6
     ∷ goes (nobodys (ownAt inP) ∷ [])  -- L7
-    ∷ goes (content inP)  -- L8
+    ∷ goes (contentNeeds inP)  -- L8
     ∷ goes (nobodys (ownAt inQ) ∷ [])  -- L9
-    ∷ goes (header inQ)  -- L10
-    ∷ goes (content inQ)  -- L11
+    ∷ goes (headerNeeds inQ)  -- L10
+    ∷ goes (contentNeeds inQ)  -- L11
     ∷ goes []  -- L12
-    ∷ goes (header inP)  -- L13
+    ∷ goes (headerNeeds inP)  -- L13
     ∷ goes (held (ownAt inQ) ∷ [])  -- L14
     ∷ goes (held (ownAt inP) ∷ [])  -- L15
     ∷ goes (held lockOfAt ∷ [])  -- L16
@@ -168,27 +168,27 @@ levelNeeds =
     ∷ []
 
 -- the four programs' rows
-unfoldable pub needs : List (ℕ × List Row)
-needs = (WRITE, writeNeeds) ∷ (READ, readNeeds) ∷ (UNMAP, unmapNeeds) ∷ (LEVEL, levelNeeds) ∷ []
+unfoldable pub lineNeeds : List (ℕ × List Row)
+lineNeeds = (WRITE, writeNeeds) ∷ (READ, readNeeds) ∷ (UNMAP, unmapNeeds) ∷ (LEVEL, levelNeeds) ∷ []
 
 -- ---- what the lines give
 
 -- the words with which all needs are met, and those with each of which one isn't and the others are
-abbrev pub allMet : List Need → Put
-allMet [] = []
-allMet (x ∷ l) = x .met ++ allMet l
+abbrev pub havingAll : List Sample → Written
+havingAll [] = []
+havingAll (x ∷ l) = x .having ++ havingAll l
 
-abbrev pub oneUnmet : List Need → List Put
-oneUnmet [] = []
-oneUnmet (x ∷ l) = map (λ y. y ++ allMet l) (x .unmet) ++ map (λ y. x .met ++ y) (oneUnmet l)
+abbrev pub lackingOne : List Sample → List Written
+lackingOne [] = []
+lackingOne (x ∷ l) = map (λ y. y ++ havingAll l) (x .lacking) ++ map (λ y. x .having ++ y) (lackingOne l)
 
 -- the numbers of a line's step, all else with the word w: with all needs met, and with one unmet
 abbrev pub gives : ℕ → ℕ → ℕ → Row → List ℕ
-gives w op line r = map (λ y. stepArea (bytes (with (made w op line) y)) 0 .number) (allMet (r .needs) ∷ oneUnmet (r .needs))
+gives w op line r = map (λ y. stepArea (bytes (with (made w op line) y)) 0 .number) (havingAll (r .samples) ∷ lackingOne (r .samples))
 
 -- what they must be
 abbrev pub wanted : Row → List ℕ
-wanted r = r .number ∷ map (λ y. r .otherwise) (oneUnmet (r .needs))
+wanted r = r .number ∷ map (λ y. r .otherwise) (lackingOne (r .samples))
 
 -- of the lines of a program from this one on
 abbrev pub givesFrom : ℕ → ℕ → ℕ → List Row → List (List ℕ)
@@ -196,8 +196,8 @@ givesFrom w op line [] = []
 givesFrom w op line (r ∷ l) = gives w op line r ∷ givesFrom w op (suc line) l
 
 -- of all programs
-abbrev pub given : ℕ → List (List (List ℕ))
-given w = map (λ x. givesFrom w (x .0) 1 (x .1)) needs
+abbrev pub allGiven : ℕ → List (List (List ℕ))
+allGiven w = map (λ x. givesFrom w (x .0) 1 (x .1)) lineNeeds
 
-abbrev pub asked : List (List (List ℕ))
-asked = map (λ x. map wanted (x .1)) needs
+abbrev pub allWanted : List (List (List ℕ))
+allWanted = map (λ x. map wanted (x .1)) lineNeeds

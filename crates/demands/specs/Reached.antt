@@ -255,7 +255,7 @@ tied =
     ∷ []
 
 -- p and q after its step
-abbrev pub chosen : List ℕ → ℕ × ℕ
-chosen words =
+abbrev pub choice : List ℕ → ℕ × ℕ
+choice words =
     let r = decode (stepArea (bytes words) 0 .after) .thread 0 in
     (r .p, r .q)

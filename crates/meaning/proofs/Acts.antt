@@ -70,15 +70,15 @@ abbrev shaped : Bool → Bool → Bool → Wears → (ℕ → ℕ) → List Sigh
 shaped quiet n c wears jump looks =
     record { ends? = false; answers = Zero; quiet? = quiet; keepsN = n; keepsC = c; wears = wears; jump = jump; looks = looks }
 
+abbrev sees : List Sight → Shape
+sees looks = shaped true true true no-block (λ line. line + 1) looks
+
 abbrev onwards : Shape
-onwards = shaped true true true no-block (λ line. line + 1) []
+onwards = sees []
 
 abbrev stops : Answer → Shape
 stops a =
     record { ends? = true; answers = a; quiet? = true; keepsN = true; keepsC = true; wears = no-block; jump = λ line. line + 1; looks = [] }
-
-abbrev sees : List Sight → Shape
-sees looks = shaped true true true no-block (λ line. line + 1) looks
 
 abbrev alters : Shape
 alters = shaped false true true no-block (λ line. line + 1) []

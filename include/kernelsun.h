@@ -1,7 +1,14 @@
 /*
  * kernelsun.h: the C door of Kernelsun, a step machine for the layer of a
- * flash store that decides which physical block holds which logical block and
- * moves contents about so that all blocks wear alike.
+ * flash store that decides which physical block holds which logical block.
+ *
+ * A block that holds the same content for long is never erased, while others
+ * are again and again. Levelling, one of the four operations, moves such a
+ * content from the least worn block in use to the most worn free one, if their
+ * wear differs by a distance that you choose, and so gives the little worn
+ * block back for use. It happens where you begin it, and a new block is always
+ * the free one of the lowest number: the layer does not even out wear by
+ * itself.
  *
  * THE AREA
  *
@@ -16,27 +23,19 @@
  * A content is one 32-bit word. 0 is "empty", what a read of an unmapped block
  * gives; a written 0 is a content like any other and reads the same.
  *
- * An area is little-endian 32-bit words, in this order:
- *
- *     t, n, p, d, header lock, headers' owner
- *     t thread records of 7:  operation, line, n, c, p, q, h
- *     map                     n words: 0 unmapped, else physical number + 1
- *     block locks             n words
- *     p block records of 4:   header, content, wear, owner
- *
- * A lock or an owner is 0 for free, else thread + 1. A header and the register
- * h are 0 for free, else logical number + 1. Look at the words as you please,
- * but leave writing them to the functions: they check the form of the area at
- * each call (KERNELSUN_SHAPE) and each line's needs (KERNELSUN_FAULT), and
- * cannot notice a change that keeps to both.
+ * Look at an area through kernelsun_view.h, which knows its layout, and leave
+ * writing it to the functions: they check the form of the area at each call
+ * (KERNELSUN_SHAPE) and each line's needs (KERNELSUN_FAULT), and cannot notice a
+ * change that keeps to both.
  *
  * WHO MAY CALL WHEN
  *
  * A "thread" here is a number below t that carries at most one open operation.
- * It need not be a thread of your system. Never let two calls run on the same
- * area at one time: if several contexts share an area, put each call (not each
- * operation) under one lock or in one critical section. Calls on different
- * areas have nothing to do with each other.
+ * The library starts none: it need not be a thread of your system, and it goes
+ * on only where you step it. Never let two calls run on the same area at one
+ * time, in an interrupt handler either: if several contexts share an area, put
+ * each call (not each operation) under one lock or in one critical section.
+ * Calls on different areas have nothing to do with each other.
  *
  * DRIVING AN OPERATION TO ITS END
  *
@@ -44,10 +43,13 @@
  * step() then does one short line of it. Step until KERNELSUN_FINISHED comes
  * back; the value beside it is the operation's answer, and the thread is idle
  * again. KERNELSUN_BLOCKED means that the line waits for a lock that another
- * open operation holds: step the other threads and try again. In an area that
- * came from format() and was changed by these functions alone, some open thread
- * can always go on, and no operation has more than 18 lines: stepping all open
- * threads in turn finishes all of them, if no more are begun meanwhile.
+ * open operation holds: step the other threads and try again.
+ *
+ * In an area that came from format() and was changed by these functions alone,
+ * some thread with open work can always step: that is proved. No operation has
+ * more than 18 lines and none goes back to an earlier one, so stepping all open
+ * threads in turn finishes all of them, if no more are begun meanwhile: that is
+ * argued from the lines and not yet proved.
  *
  *     uint64_t r = begin(area, len, 0, KERNELSUN_READ, 7, 0);
  *     if (kernelsun_number(r) == KERNELSUN_WENT) {
@@ -67,17 +69,19 @@
  * is 0 except beside KERNELSUN_FINISHED. Both come packed into one word:
  * number times 4,294,967,296 plus value. Only KERNELSUN_WENT and
  * KERNELSUN_FINISHED change the area. After any other number each byte is as
- * it was.
+ * it was. A compiler that can warns where a result is dropped.
  *
  * LINKING
  *
- *     cc -std=c99 -Iinclude yours.c target/staticlib/libkernelsun.a
+ *     cc -std=c99 yours.c $(pkg-config --cflags --libs kernelsun)
  *
- * The library is for x86-64 with the calling convention of Linux; it may be
- * part of a position-independent program. It takes the names format, begin and
- * step and no other, asks for memcpy and memset and for nothing else, has no
- * data of its own, and each call ends by itself. step() takes up to 12 KB of
- * stack, format() and begin() less than 1 KB.
+ * after ./install, or with the paths of the library and of this header by hand
+ * (docs/USING.md). The library is for x86-64 with the calling convention of
+ * Linux (SSE2 registers and the red zone are used); it may be part of a
+ * position-independent program. It takes the names format, begin and step and
+ * no other, asks for memcpy and memset and for nothing else, has no data of its
+ * own, and each call ends by itself. step() takes up to 12 KB of stack,
+ * format() and begin() less than 1 KB.
  */
 #ifndef KERNELSUN_H
 #define KERNELSUN_H
@@ -87,6 +91,22 @@
 
 #ifdef __cplusplus
 extern "C" {
+#endif
+
+/*
+ * The version of this header and of the library beside it. The first number
+ * rises where an area of before is refused or means something else, or where a
+ * call answers otherwise; the second where something is added.
+ */
+#define KERNELSUN_VERSION_MAJOR 1
+#define KERNELSUN_VERSION_MINOR 0
+#define KERNELSUN_VERSION "1.0"
+
+/* A result that is dropped may have been a refusal. */
+#if defined(__GNUC__)
+#define KERNELSUN_RESULT __attribute__((warn_unused_result))
+#else
+#define KERNELSUN_RESULT
 #endif
 
 /* Limits of format(), both ends included. */
@@ -116,8 +136,8 @@ extern "C" {
 #define KERNELSUN_WRITE 1u /* block n gets content c; answers 0 */
 #define KERNELSUN_READ 2u  /* answers the content of block n, 0 if unmapped; c is not looked at */
 #define KERNELSUN_UNMAP 3u /* block n has no content any more; answers 0; c is not looked at */
-#define KERNELSUN_LEVEL 4u /* moves one content if wear is uneven; answers 1 if it did, else 0;
-                              n and c are not looked at */
+#define KERNELSUN_LEVEL 4u /* moves one content if wear differs by d or more; answers 1 if it did,
+                              else 0; n and c are not looked at */
 
 /* Numbers given back. The area is unchanged after each but the first two. */
 #define KERNELSUN_WENT 0u       /* formatted, begun or stepped */
@@ -153,6 +173,7 @@ static inline uint32_t kernelsun_value(uint64_t result)
  * Gives WENT; or, the first that applies, LIMITS, SHAPE (len isn't
  * KERNELSUN_LENGTH(t, n, p)).
  */
+KERNELSUN_RESULT
 uint64_t format(uint8_t *area, size_t len, uint32_t t, uint32_t n, uint32_t p, uint32_t d);
 
 /*
@@ -163,6 +184,7 @@ uint64_t format(uint8_t *area, size_t len, uint32_t t, uint32_t n, uint32_t p, u
  * Gives WENT; or, the first that applies, SHAPE, THREAD, BUSY, OPERATION,
  * LOGICAL.
  */
+KERNELSUN_RESULT
 uint64_t begin(uint8_t *area, size_t len, uint32_t thread, uint32_t op, uint32_t n, uint32_t c);
 
 /*
@@ -174,6 +196,7 @@ uint64_t begin(uint8_t *area, size_t len, uint32_t thread, uint32_t op, uint32_t
  * For all three: area points to len bytes that may be read and written, and is
  * not NULL, not even where len is 0.
  */
+KERNELSUN_RESULT
 uint64_t step(uint8_t *area, size_t len, uint32_t thread);
 
 #ifdef __cplusplus

@@ -1,0 +1,392 @@
+/*
+ * kernelsun_view.h: reading an area of Kernelsun, and names for what a call
+ * gives back and for the lines.
+ *
+ * All that this page reads, an area's own words say; it changes none of them.
+ * It is the only place that counts words, so that a caller who looks at an area
+ * through it need not know the layout and is not touched where that changes.
+ *
+ * WHICH AREAS
+ *
+ * An area that a call has not refused with KERNELSUN_SHAPE, or one of which
+ * kernelsun_viewable() says 1, which looks at length and sizes alone. Of such an
+ * area any index may be asked: where it is not below its size, nothing is read,
+ * and KERNELSUN_NONE or 0 comes back, as each function says.
+ *
+ * As with the calls, nothing may write to the area while it is read. Two readers
+ * do no harm.
+ */
+#ifndef KERNELSUN_VIEW_H
+#define KERNELSUN_VIEW_H
+
+#include <stddef.h>
+#include <stdint.h>
+
+#include "kernelsun.h"
+
+#ifdef __cplusplus
+extern "C" {
+#endif
+
+/* No thread, no block: what a free lock, owner or header and an unmapped number give. */
+#define KERNELSUN_NONE 0xffffffffu
+
+/* The header lock H, where kernelsun_next_lock() names a lock. No logical number is that large. */
+#define KERNELSUN_LOCK_H 0xfffffffeu
+
+/* The largest wear: it stays there. */
+#define KERNELSUN_WEAR_MOST 0xffffffffu
+
+/*
+ * ---- Where the words stand: for those who make areas by hand; readers go on below ----
+ *
+ * An area is little-endian 32-bit words, in this order:
+ *
+ *     t, n, p, d, header lock, headers' owner
+ *     t thread records of 7:  operation, line, n, c, p, q, h
+ *     map                     n words: 0 unmapped, else physical number + 1
+ *     block locks             n words
+ *     p block records of 4:   header, content, wear, owner
+ *
+ * A lock or an owner is 0 for free, else thread + 1. A header and the register
+ * h are 0 for free, else logical number + 1.
+ */
+
+/* The words at the area's start, by their index. */
+enum {
+    KERNELSUN_AT_T,
+    KERNELSUN_AT_N,
+    KERNELSUN_AT_P,
+    KERNELSUN_AT_D,
+    KERNELSUN_AT_LOCK,
+    KERNELSUN_AT_OWNER,
+    KERNELSUN_HEAD_WORDS
+};
+
+/* The words of a thread's record. */
+enum {
+    KERNELSUN_THREAD_OPERATION,
+    KERNELSUN_THREAD_LINE,
+    KERNELSUN_THREAD_N,
+    KERNELSUN_THREAD_C,
+    KERNELSUN_THREAD_P,
+    KERNELSUN_THREAD_Q,
+    KERNELSUN_THREAD_H,
+    KERNELSUN_THREAD_WORDS
+};
+
+/* The words of a physical block's record. */
+enum {
+    KERNELSUN_BLOCK_HEADER,
+    KERNELSUN_BLOCK_CONTENT,
+    KERNELSUN_BLOCK_WEAR,
+    KERNELSUN_BLOCK_OWNER,
+    KERNELSUN_BLOCK_WORDS
+};
+
+typedef struct {
+    uint32_t t, n, p, d;
+} kernelsun_sizes;
+
+/* The index of a word of a thread's record, of the map, of the block locks, of a block's record. */
+static inline size_t kernelsun_at_thread(uint32_t thread, size_t word)
+{
+    return (size_t)KERNELSUN_HEAD_WORDS + (size_t)KERNELSUN_THREAD_WORDS * thread + word;
+}
+
+static inline size_t kernelsun_at_map(const kernelsun_sizes *s, uint32_t n)
+{
+    return kernelsun_at_thread(s->t, 0) + n;
+}
+
+static inline size_t kernelsun_at_lock(const kernelsun_sizes *s, uint32_t n)
+{
+    return kernelsun_at_map(s, s->n) + n;
+}
+
+static inline size_t kernelsun_at_block(const kernelsun_sizes *s, uint32_t p, size_t word)
+{
+    return kernelsun_at_lock(s, s->n) + (size_t)KERNELSUN_BLOCK_WORDS * p + word;
+}
+
+/* The word of that index, whatever stands there. The index is within the area. */
+static inline uint32_t kernelsun_word(const uint8_t *area, size_t index)
+{
+    const uint8_t *b = area + 4 * index;
+    return (uint32_t)b[0] | (uint32_t)b[1] << 8 | (uint32_t)b[2] << 16 | (uint32_t)b[3] << 24;
+}
+
+/* ---- The sizes ---- */
+
+static inline uint32_t kernelsun_t(const uint8_t *area)
+{
+    return kernelsun_word(area, KERNELSUN_AT_T);
+}
+
+static inline uint32_t kernelsun_n(const uint8_t *area)
+{
+    return kernelsun_word(area, KERNELSUN_AT_N);
+}
+
+static inline uint32_t kernelsun_p(const uint8_t *area)
+{
+    return kernelsun_word(area, KERNELSUN_AT_P);
+}
+
+static inline uint32_t kernelsun_d(const uint8_t *area)
+{
+    return kernelsun_word(area, KERNELSUN_AT_D);
+}
+
+static inline kernelsun_sizes kernelsun_sizes_of(const uint8_t *area)
+{
+    kernelsun_sizes s;
+    s.t = kernelsun_t(area);
+    s.n = kernelsun_n(area);
+    s.p = kernelsun_p(area);
+    s.d = kernelsun_d(area);
+    return s;
+}
+
+/* 1 where the area's sizes are within their limits and len is the length that they have, else 0. */
+static inline int kernelsun_viewable(const uint8_t *area, size_t len)
+{
+    kernelsun_sizes s;
+    if (len < 4 * (size_t)KERNELSUN_HEAD_WORDS) {
+        return 0;
+    }
+    s = kernelsun_sizes_of(area);
+    return s.t >= KERNELSUN_THREADS_LEAST && s.t <= KERNELSUN_THREADS_MOST &&
+           s.n >= KERNELSUN_LOGICAL_LEAST && s.n <= KERNELSUN_LOGICAL_MOST &&
+           s.p >= KERNELSUN_PHYSICAL_LEAST(s.n) && s.p <= KERNELSUN_PHYSICAL_MOST &&
+           s.d >= KERNELSUN_DISTANCE_LEAST && s.d <= KERNELSUN_DISTANCE_MOST &&
+           len == KERNELSUN_LENGTH(s.t, s.n, s.p);
+}
+
+/* ---- Words with a meaning ---- */
+
+/* A lock, owner, header or map word is 0 for nobody, else a number plus one. */
+static inline uint32_t kernelsun_named(uint32_t word)
+{
+    return word == 0 ? KERNELSUN_NONE : word - 1;
+}
+
+/* A word of a thread's record, of the map, of the locks, of a block; 0 past the last of them. */
+static inline uint32_t kernelsun_of_thread(const uint8_t *area, uint32_t thread, size_t word)
+{
+    return thread < kernelsun_t(area) ? kernelsun_word(area, kernelsun_at_thread(thread, word)) : 0;
+}
+
+static inline uint32_t kernelsun_of_map(const uint8_t *area, uint32_t n)
+{
+    kernelsun_sizes s = kernelsun_sizes_of(area);
+    return n < s.n ? kernelsun_word(area, kernelsun_at_map(&s, n)) : 0;
+}
+
+static inline uint32_t kernelsun_of_lock(const uint8_t *area, uint32_t n)
+{
+    kernelsun_sizes s = kernelsun_sizes_of(area);
+    return n < s.n ? kernelsun_word(area, kernelsun_at_lock(&s, n)) : 0;
+}
+
+static inline uint32_t kernelsun_of_block(const uint8_t *area, uint32_t p, size_t word)
+{
+    kernelsun_sizes s = kernelsun_sizes_of(area);
+    return p < s.p ? kernelsun_word(area, kernelsun_at_block(&s, p, word)) : 0;
+}
+
+/* ---- Locks and owners: a thread, or KERNELSUN_NONE ---- */
+
+/* Who holds the header lock H. */
+static inline uint32_t kernelsun_lock_h(const uint8_t *area)
+{
+    return kernelsun_named(kernelsun_word(area, KERNELSUN_AT_LOCK));
+}
+
+/* Who owns the headers. */
+static inline uint32_t kernelsun_headers_owner(const uint8_t *area)
+{
+    return kernelsun_named(kernelsun_word(area, KERNELSUN_AT_OWNER));
+}
+
+/* Who holds the lock of logical block n. */
+static inline uint32_t kernelsun_lock(const uint8_t *area, uint32_t n)
+{
+    return kernelsun_named(kernelsun_of_lock(area, n));
+}
+
+/* Who owns physical block p. */
+static inline uint32_t kernelsun_owner(const uint8_t *area, uint32_t p)
+{
+    return kernelsun_named(kernelsun_of_block(area, p, KERNELSUN_BLOCK_OWNER));
+}
+
+/* ---- Blocks ---- */
+
+/* The physical block that logical block n is mapped to, or KERNELSUN_NONE. */
+static inline uint32_t kernelsun_map(const uint8_t *area, uint32_t n)
+{
+    return kernelsun_named(kernelsun_of_map(area, n));
+}
+
+/* The logical block that physical block p's header names; KERNELSUN_NONE where p is free. */
+static inline uint32_t kernelsun_header(const uint8_t *area, uint32_t p)
+{
+    return kernelsun_named(kernelsun_of_block(area, p, KERNELSUN_BLOCK_HEADER));
+}
+
+/* The content of physical block p. A freed block keeps its last one. */
+static inline uint32_t kernelsun_content(const uint8_t *area, uint32_t p)
+{
+    return kernelsun_of_block(area, p, KERNELSUN_BLOCK_CONTENT);
+}
+
+/* The wear of physical block p. */
+static inline uint32_t kernelsun_wear(const uint8_t *area, uint32_t p)
+{
+    return kernelsun_of_block(area, p, KERNELSUN_BLOCK_WEAR);
+}
+
+/* ---- Threads ---- */
+
+/* The open operation of a thread, KERNELSUN_WRITE to KERNELSUN_LEVEL; 0 where it is idle. */
+static inline uint32_t kernelsun_operation(const uint8_t *area, uint32_t thread)
+{
+    return kernelsun_of_thread(area, thread, KERNELSUN_THREAD_OPERATION);
+}
+
+/* The line that its next step does, from 1; 0 where it is idle. */
+static inline uint32_t kernelsun_line(const uint8_t *area, uint32_t thread)
+{
+    return kernelsun_of_thread(area, thread, KERNELSUN_THREAD_LINE);
+}
+
+/* Its registers. Before a line has set one, and of an idle thread, each is 0; h is then none. */
+static inline uint32_t kernelsun_register_n(const uint8_t *area, uint32_t thread)
+{
+    return kernelsun_of_thread(area, thread, KERNELSUN_THREAD_N);
+}
+
+static inline uint32_t kernelsun_register_c(const uint8_t *area, uint32_t thread)
+{
+    return kernelsun_of_thread(area, thread, KERNELSUN_THREAD_C);
+}
+
+static inline uint32_t kernelsun_register_p(const uint8_t *area, uint32_t thread)
+{
+    return kernelsun_of_thread(area, thread, KERNELSUN_THREAD_P);
+}
+
+static inline uint32_t kernelsun_register_q(const uint8_t *area, uint32_t thread)
+{
+    return kernelsun_of_thread(area, thread, KERNELSUN_THREAD_Q);
+}
+
+/* The logical block that levelling moves, or KERNELSUN_NONE. */
+static inline uint32_t kernelsun_register_h(const uint8_t *area, uint32_t thread)
+{
+    return kernelsun_named(kernelsun_of_thread(area, thread, KERNELSUN_THREAD_H));
+}
+
+/*
+ * The lock that a thread's next line takes: KERNELSUN_LOCK_H, or the logical block
+ * whose lock it is, or KERNELSUN_NONE where that line takes none. A step that
+ * answered KERNELSUN_BLOCKED waits for this one.
+ */
+static inline uint32_t kernelsun_next_lock(const uint8_t *area, uint32_t thread)
+{
+    uint32_t line = kernelsun_line(area, thread);
+    switch (kernelsun_operation(area, thread)) {
+    case KERNELSUN_WRITE:
+    case KERNELSUN_UNMAP:
+        if (line == 1) {
+            return KERNELSUN_LOCK_H;
+        }
+        return line == 2 ? kernelsun_register_n(area, thread) : KERNELSUN_NONE;
+    case KERNELSUN_READ: return line == 1 ? kernelsun_register_n(area, thread) : KERNELSUN_NONE;
+    case KERNELSUN_LEVEL:
+        if (line == 1) {
+            return KERNELSUN_LOCK_H;
+        }
+        return line == 6 ? kernelsun_register_n(area, thread) : KERNELSUN_NONE;
+    default: return KERNELSUN_NONE;
+    }
+}
+
+/* Who holds a lock that kernelsun_next_lock() named; KERNELSUN_NONE where it is free. */
+static inline uint32_t kernelsun_lock_holder(const uint8_t *area, uint32_t lock)
+{
+    return lock == KERNELSUN_LOCK_H ? kernelsun_lock_h(area) : kernelsun_lock(area, lock);
+}
+
+/* ---- Names ---- */
+
+/* The name of a number that a call gave back: "WENT", "BLOCKED"; "?" for one that none gives. */
+static inline const char *kernelsun_name(uint32_t number)
+{
+    switch (number) {
+    case KERNELSUN_WENT: return "WENT";
+    case KERNELSUN_FINISHED: return "FINISHED";
+    case KERNELSUN_BLOCKED: return "BLOCKED";
+    case KERNELSUN_SHAPE: return "SHAPE";
+    case KERNELSUN_THREAD: return "THREAD";
+    case KERNELSUN_BUSY: return "BUSY";
+    case KERNELSUN_IDLE: return "IDLE";
+    case KERNELSUN_LOGICAL: return "LOGICAL";
+    case KERNELSUN_OPERATION: return "OPERATION";
+    case KERNELSUN_FAULT: return "FAULT";
+    case KERNELSUN_LIMITS: return "LIMITS";
+    default: return "?";
+    }
+}
+
+/* The name of an operation: "write", "read", "unmap", "level"; "idle" for 0, "?" for another. */
+static inline const char *kernelsun_operation_name(uint32_t op)
+{
+    switch (op) {
+    case 0: return "idle";
+    case KERNELSUN_WRITE: return "write";
+    case KERNELSUN_READ: return "read";
+    case KERNELSUN_UNMAP: return "unmap";
+    case KERNELSUN_LEVEL: return "level";
+    default: return "?";
+    }
+}
+
+/* The last line of an operation; 0 for what is none. */
+static inline uint32_t kernelsun_last_line(uint32_t op)
+{
+    switch (op) {
+    case KERNELSUN_WRITE: return 16;
+    case KERNELSUN_READ: return 6;
+    case KERNELSUN_UNMAP: return 11;
+    case KERNELSUN_LEVEL: return 18;
+    default: return 0;
+    }
+}
+
+/* The label of a line: "W5", "L18"; "-" for an operation and a line that there are not. */
+static inline const char *kernelsun_label(uint32_t op, uint32_t line)
+{
+    static const char labels[4][18][4] = {
+        {"W1", "W2", "W3", "W4", "W5", "W6", "W7", "W8", "W9", "W10", "W11", "W12", "W13", "W14",
+         "W15", "W16", "", ""},
+        {"R1", "R2", "R3", "R4", "R5", "R6", "", "", "", "", "", "", "", "", "", "", "", ""},
+        {"U1", "U2", "U3", "U4", "U5", "U6", "U7", "U8", "U9", "U10", "U11", "", "", "", "", "", "",
+         ""},
+        {"L1", "L2", "L3", "L4", "L5", "L6", "L7", "L8", "L9", "L10", "L11", "L12", "L13", "L14",
+         "L15", "L16", "L17", "L18"}};
+    return line >= 1 && line <= kernelsun_last_line(op) ? labels[op - 1][line - 1] : "-";
+}
+
+/* The label of the line that a thread's next step does; "-" where it is idle. */
+static inline const char *kernelsun_thread_label(const uint8_t *area, uint32_t thread)
+{
+    return kernelsun_label(kernelsun_operation(area, thread), kernelsun_line(area, thread));
+}
+
+#ifdef __cplusplus
+}
+#endif
+
+#endif

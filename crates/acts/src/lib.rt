@@ -1,5 +1,6 @@
-// The programs as tables, and the small by-value functions that a line is made of: records, effects, verdicts. Each is the definition
-// of the same name in the crate meaning (specs/Programs.antt, specs/Holding.antt, specs/Step.antt).
+// The four programs as tables, and the small by-value functions that a line is made of.
+// Records, effects, verdicts: each function is the definition of the same name in the crate meaning (specs/Programs.antt,
+// specs/Holding.antt, specs/Step.antt).
 ghost use mathlib.Core.Path.{_≡_};
 ghost use mathlib.Core.Bool.{cond};
 ghost use Prim.Native.Nat.{_+_, _<_, _≤_};

@@ -1,5 +1,6 @@
-// The calls: format, begin and step on numbers and an area of bytes. Each refuses in the order of document 01's table and otherwise
-// does what its definition says (specs/Means.antt); the result is number times 4,294,967,296 plus value. None of the three has a `requires`.
+// The calls format, begin and step, on numbers and an area of bytes.
+// Each refuses in the order of document 01's table and otherwise does what its definition says (specs/Means.antt); the result is number
+// times 4,294,967,296 plus value. None of the three has a `requires`.
 ghost use mathlib.Core.Path.{_≡_};
 ghost use Prim.Native.Nat.{_+_, _*_, _<_, _≤_};
 ghost use lib.ListN.{length, replicate};

@@ -1,1 +1,2 @@
-// No code: specs/Cases.antt has document 01's cases and specs/Given.antt its numbers, proved by computing the definitions of the crates below.
+// Document 01's cases and numbers, proved by computing the definitions; no code.
+// specs/Cases.antt has the cases and specs/Given.antt the numbers.

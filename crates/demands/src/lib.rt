@@ -1,1 +1,2 @@
-// No code: the demands over byte areas. Their own definitions stand in specs/, what is shown and its proofs in proofs/.
+// The three demands over areas of bytes; no code.
+// Their own definitions stand in specs/, what is shown and its proofs in proofs/.

@@ -1,5 +1,6 @@
-// What C links: each exported function is a thin one over a function of a crate below, and has that function's contract. A static library
-// has only the functions that its own crate marks, so all that C can call stands here. The C header is include/kernelsun.h.
+// The library that C links: a thin function for each exported one.
+// Each has the contract of the function of a crate below that it calls. A static library has only the functions that its own crate marks, so
+// all that C can call stands here. The C header is include/kernelsun.h.
 ghost use Rattle.calls.specs.Means.{FormatMeans, BeginMeans, StepMeans};
 
 #[no_mangle]

@@ -1,5 +1,6 @@
-// The step machine on the working store: the searches, what a line would do (`judge_act`, `judge`) and doing it (`settle`).
-// The definitions are those of the crate meaning, specs/Choosing.antt and specs/Step.antt.
+// The step machine on the working store: the searches, what a line would do, and doing it.
+// `judge_act` and `judge` say what a line would do, `settle` does it. The definitions are those of the crate meaning, specs/Choosing.antt and
+// specs/Step.antt.
 ghost use mathlib.Core.Path.{_≡_};
 ghost use Prim.Native.Nat.{_<_, _≤_};
 ghost use Rattle.meaning.specs.Store.{Store as StoreOf};

@@ -1,4 +1,5 @@
-// The types that the code and the definitions share. What they mean stands in specs/; nothing here runs.
+// The types that code and definitions share, the definitions of the machine, the manager and schedules, and all that is proved of them.
+// What the types mean stands in specs/; nothing here runs.
 
 // A register that holds a block's number.
 pub enum Reg {

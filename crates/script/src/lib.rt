@@ -1,5 +1,6 @@
-// The script language on slices: 01, "The script program". A line is read into a command, the command is put to the store, and the reply is
-// printed. `run` does that for a whole input; what it prints is `output` of specs/Output.antt.
+// The script language: what the script program prints for a whole input.
+// 01, "The script program". A line is read into a command, the command is put to the store, and the reply is printed. `run` does that for a
+// whole input; what it prints is `output` of specs/Output.antt.
 ghost use mathlib.Core.Path.{_≡_};
 ghost use mathlib.Core.Bool.{cond};
 ghost use mathlib.Core.List.{[], _∷_};

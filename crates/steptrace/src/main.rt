@@ -1,5 +1,6 @@
-// The script program: 01, "The script program". It reads standard input to its end, or to one byte more than a script may have, and
-// writes what `script` prints for it. A read that fails ends the input; a write that fails ends the program.
+// The script program: standard input through the script language to standard output.
+// 01, "The script program". It reads to the end of its input, or to one byte more than a script may have, and writes what `script` prints
+// for it. A read that fails ends the input; a write that fails ends the program.
 use libc::STDIN_FILENO;
 use libc::STDOUT_FILENO;
 

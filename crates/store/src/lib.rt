@@ -1,5 +1,5 @@
-// The store area: reading and writing its words, the test that it is well formed, the working store and its filling, and a setter for
-// each table. What an area means stands in specs/Area.antt; every contract below is an equality with a definition there.
+// The store area: its definition and its test, reading and setting its words, and the working store that is filled from it.
+// What an area means stands in specs/Area.antt; every contract below is an equality with a definition there.
 ghost use mathlib.Core.Path.{_≡_};
 ghost use Prim.Native.Nat.{_+_, _*_, _<_, _≤_};
 ghost use lib.Dec.{leb};

@@ -98,7 +98,7 @@ static int read_line(text *in, uint8_t *letter, uint32_t field[FIELDS_MOST])
     return count != 0 && read_byte(in, '\n');
 }
 
-/* Formats aside, so that a refused f leaves the earlier store. */
+/* Formats aside, so that the store of before is left where f is refused. */
 static uint64_t run_format(store *kept, const uint32_t field[FIELDS_MOST])
 {
     uint8_t fresh[KERNELSUN_LENGTH_MOST];

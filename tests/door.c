@@ -278,7 +278,7 @@ static void check_step_order(void)
     expect_refusal(&a, call_step(1), KERNELSUN_FAULT);
 }
 
-/* What begin writes: the operation and its first line, and n and c where the operation has them. */
+/* What begin writes: operation and first line, and n and c where the operation has them. */
 static void expect_begun(uint32_t op, uint32_t n, uint32_t c, uint32_t kept_n, uint32_t kept_c)
 {
     static area a;

@@ -21,7 +21,7 @@ typedef struct {
 
 typedef struct {
     uint8_t bytes[KERNELSUN_LENGTH_MOST];
-    size_t len; /* 0 before the first accepted f, which no call takes for a store */
+    size_t len; /* 0 until an f is accepted, which no call takes for a store */
 } store;
 
 typedef struct {

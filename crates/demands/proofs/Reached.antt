@@ -119,7 +119,7 @@ reuse-grown = run-formed 1 1 2 1 reusing refl
 
 -- ---- one step on an area made by hand
 
--- "Wear at 4,294,967,295 stays there", at U7 and at L13, and one below goes up to it
+-- wear at 4,294,967,295 is left as it is, at U7 and at L13, and one below goes up to it
 pub largest-wear-stays :
     freedFrom UNMAP 7 4294967294 ∷ freedFrom UNMAP 7 4294967295 ∷ freedFrom LEVEL 13 4294967294 ∷ freedFrom LEVEL 13 4294967295 ∷ []
     ≡ 4294967295 ∷ 4294967295 ∷ 4294967295 ∷ 4294967295 ∷ []
@@ -133,7 +133,7 @@ pub finished-with :
 unfolding wellFormed
 finished-with = refl
 
--- "lowest number on ties"
+-- of equally worn blocks the lowest number, as "from" and as "to"
 pub ties-chosen : choice tied ≡ (2, 0)
 unfolding wellFormed
 ties-chosen = refl

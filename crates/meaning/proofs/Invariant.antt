@@ -16,8 +16,8 @@
 --  * unset. A register that no line has set is as begin left it, so that the lines before the last lock can be run again.
 -- GUARDS says which lock or owner a thread has when it changes a word. A thread that knows something of a word has what guards that
 -- word, so the word stays as it is while others step: no two lines and no two acts are ever compared.
--- MAP AND HEADERS: an entry of the map points to a block, and its header back to the number, at all times (`Agrees`); a header points to a number that is
--- mapped to its block, unless that block is astray (`mapped`). They agree when nobody owns the headers.
+-- MAP AND HEADERS: an entry of the map points to a block, and its header back to the number, at all times (`Agrees`); a header points to
+-- a number that is mapped to its block, unless that block is astray (`mapped`). They agree where the headers have no owner.
 --
 -- Definitions only; the files of the room use them:
 --  * Keeping: a step of one thread keeps what the others hold and know, and so the invariant.

@@ -17,7 +17,7 @@ use Rattle.meaning.specs.Schedule.{Operation, operation, Answered, emit,
 
 -- ---- what a store keeps
 
--- number k is mapped: "Map: N words, 0 unmapped"
+-- number k is mapped
 abbrev pub isMapped : Store → ℕ → Bool
 isMapped s k = not (free (s .map k))
 

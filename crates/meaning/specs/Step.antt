@@ -107,7 +107,7 @@ next r e = Go (onward r) e
 abbrev pub branch : ℕ → Thread → Thread → Verdict
 branch w r r′ = cond (free w) (Go r nothing) (Go r′ nothing)
 
--- "Wear at 4,294,967,295 stays there."
+-- 01, "Choosing": the largest wear, 4,294,967,295, goes up no more
 abbrev pub worn : ℕ → ℕ
 worn w = cond (ltb w mostWord) (w + 1) w
 

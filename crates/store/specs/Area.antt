@@ -118,7 +118,7 @@ inBounds s =
     && every (s .blocks) (λ m. leb (s .header m) (s .numbers))
     && every (s .blocks) (λ m. leb (s .own m) (s .threads))
 
--- "the four sizes in limits", and every word in its bounds
+-- sizes that keep to their limits, and every word in its bounds
 abbrev pub sound : Store → Bool
 sound s = inLimits (s .threads) (s .numbers) (s .blocks) (s .distance) && inBounds s
 

@@ -1,6 +1,6 @@
 /*
- * A step by way of a working store: all zeros at full size, then filled from
- * the area, then the line looks at the store alone. Words that the line writes
+ * A step by way of a working store: all of it starts as zeros, the area is read
+ * into it, and the line looks at the store alone. Words that the line writes
  * go to the store and to the area, so that no pass has to save everything.
  *
  * The shape is tested on the bytes first, by plain.c: an area that is refused

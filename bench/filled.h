@@ -1,7 +1,7 @@
 /*
- * The second yardstick: step as in plain.h, but with the working store that
- * document 01 asks for, filled with zeros at full size before the area is read
- * in. What it costs more than plain_step is the price of that store in C.
+ * The second yardstick: step as in plain.h, but with the working store of
+ * document 01: room for the largest area, all zeros, into which the area is
+ * then read. What it costs more than plain_step is the price of that store in C.
  */
 #ifndef KERNELSUN_BENCH_FILLED_H
 #define KERNELSUN_BENCH_FILLED_H

@@ -168,7 +168,7 @@ static void check_line_limits(void)
 {
     static const uint32_t last[] = {0, 16, 6, 11, 18};
     static area a;
-    about("line from 1 to the operation's last");
+    about("a line that its operation has");
     for (uint32_t op = 1; op <= OPERATIONS; op++) {
         make_with_open_level(&a);
         word_put(a.bytes, thread_word(1, THREAD_OP), op);
@@ -233,7 +233,7 @@ static void check_sizes_against_length(void)
 static void check_begin_order(void)
 {
     static area a;
-    about("begin: SHAPE, THREAD, BUSY, OPERATION, LOGICAL");
+    about("the order of what begin refuses");
     make_with_open_level(&a);
     word_put(a.bytes, WORD_HEADER_LOCK, 4);
     expect_refusal(&a, call_begin(3, 0, 2, 0), KERNELSUN_SHAPE);
@@ -258,7 +258,7 @@ static void check_begin_order(void)
 static void check_step_order(void)
 {
     static area a;
-    about("step: SHAPE, THREAD, IDLE, then the line's own");
+    about("the order of what step refuses");
     make_with_open_level(&a);
     word_put(a.bytes, thread_word(0, THREAD_C), 1);
     expect_refusal(&a, call_step(3), KERNELSUN_SHAPE);
@@ -278,7 +278,7 @@ static void check_step_order(void)
     expect_refusal(&a, call_step(1), KERNELSUN_FAULT);
 }
 
-/* What begin writes: operation, line 1, n and c where the operation has them. */
+/* What begin writes: operation and first line, and n and c where the operation has them. */
 static void expect_begun(uint32_t op, uint32_t n, uint32_t c, uint32_t kept_n, uint32_t kept_c)
 {
     static area a;
@@ -362,7 +362,7 @@ static void check_step_counts(void)
     expect_whole(&a, KERNELSUN_WRITE, 0, 5, 16, 0);
     static const uint32_t written[30] = {2, 1, 2, 1, [20] = 1, [22] = 1, 5};
     expect_words(&a, written, COUNT(written));
-    about("second write to the same number");
+    about("second write of a number");
     expect_whole(&a, KERNELSUN_WRITE, 0, MOST, 8, 0);
     about("read of a mapped number");
     expect_whole(&a, KERNELSUN_READ, 0, 0, 6, MOST);
@@ -519,7 +519,7 @@ static void check_second_writer_waits(void)
 static void check_read_before_unmap_finishes(void)
 {
     static area a;
-    about("after U10 a read finishes with empty while the unmap is open");
+    about("a read between U10 and U11 finishes with empty");
     make_fresh(&a, 2, 1, 2, 1);
     expect_whole(&a, KERNELSUN_WRITE, 0, 5, 16, 0);
     expect_begins(&a, 1, KERNELSUN_UNMAP, 0, 0);

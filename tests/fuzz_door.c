@@ -150,8 +150,8 @@ static call some_begin(const sizes *s, uint32_t thread)
 
 /*
  * The atomic manager: what each number holds, and what each open read must give.
- * An operation has its place in the order from its last lock on (W2, R1, U2), so
- * that is where the manager does it. Levelling changes nothing here.
+ * The manager does an operation where it takes its last lock (W2, R1, U2): from
+ * there on it has its place. Levelling changes nothing here.
  */
 static struct {
     uint32_t content[KERNELSUN_LOGICAL_MOST];
@@ -179,7 +179,7 @@ static void step_grown(uint32_t thread)
     call c = call_step(thread);
     uint64_t r = compare(c);
     if (kernelsun_number(r) == KERNELSUN_FAULT) {
-        fail("FAULT in a store grown from fresh", &c, r, r, &now, &now, &now);
+        fail("FAULT in a grown store", &c, r, r, &now, &now, &now);
     }
     if (kernelsun_number(r) == KERNELSUN_WENT) {
         manager_does(thread, before[THREAD_OP], before[THREAD_LINE], before[THREAD_N],

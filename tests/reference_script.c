@@ -21,7 +21,7 @@ typedef struct {
 
 typedef struct {
     uint8_t bytes[KERNELSUN_LENGTH_MOST];
-    size_t len; /* 0 before the first accepted f, which no call takes for a store */
+    size_t len; /* 0 until an f is accepted, which no call takes for a store */
 } store;
 
 typedef struct {
@@ -98,7 +98,7 @@ static int read_line(text *in, uint8_t *letter, uint32_t field[FIELDS_MOST])
     return count != 0 && read_byte(in, '\n');
 }
 
-/* Formats aside, so that a refused f leaves the earlier store. */
+/* Formats aside, so that the store of before is left where f is refused. */
 static uint64_t run_format(store *kept, const uint32_t field[FIELDS_MOST])
 {
     uint8_t fresh[KERNELSUN_LENGTH_MOST];

@@ -1,5 +1,5 @@
--- 01, "Checked by hand": the starred cases as one list under one theorem, proved by computing the definitions, and the example of "The
--- script program" under another. A case is data: a format, begins and steps, and what must come back. Assumes nothing.
+-- 01, "Checked by hand": the starred cases, one list and one theorem, proved by computing the definitions; and the example of "The script
+-- program", another. A case is data: a format, begins and steps, and what must come back. Assumes nothing.
 use mathlib.Core.Path.{_≡_, refl}
 use mathlib.Core.List.{List, [], _∷_, map}
 use Prim.Native.Nat.{ℕ, zero, suc, _-_}
@@ -83,7 +83,7 @@ abbrev pub toItsEnd : ℕ → ℕ → ℕ → ℕ → ℕ → List Exchange → 
 toItsEnd op n c count value rest =
     record { call = begin 0 op n c; number = WENT; value = 0 } ∷ goes (count - 1) (onTheLast value rest)
 
--- "T=1, N=2, P=3, D=2, whole operations: write 0 7, write 1 9, unmap 0, write 0 8, unmap 0", up to the levelling
+-- the operations of the case with 2 numbers and 3 blocks, each to its end, before the levelling
 abbrev pub usedTwo : List Exchange → List Exchange
 usedTwo rest =
     toItsEnd WRITE 0 7 16 0 (toItsEnd WRITE 1 9 16 0 (toItsEnd UNMAP 0 0 11 0 (toItsEnd WRITE 0 8 16 0 (toItsEnd UNMAP 0 0 11 0 rest))))
@@ -91,12 +91,12 @@ usedTwo rest =
 -- the area of that run after its levelling, a block record a line
 abbrev pub levelled : List ℕ
 levelled =
-    1 ∷ 2 ∷ 3 ∷ 2 ∷ 0 ∷ 0  -- T, N, P, D, header lock, headers' owner
+    1 ∷ 2 ∷ 3 ∷ 2 ∷ 0 ∷ 0  -- the four sizes, H and the headers' owner
     ∷ 0 ∷ 0 ∷ 0 ∷ 0 ∷ 0 ∷ 0 ∷ 0  -- thread 0 is idle
     ∷ 0 ∷ 1  -- number 0 is unmapped, number 1 is on block 0
     ∷ 0 ∷ 0  -- both locks are free
     ∷ 2 ∷ 9 ∷ 2 ∷ 0  -- block 0 is number 1's, holds 9 and has wear 2
-    ∷ 0 ∷ 9 ∷ 1 ∷ 0  -- block 1 is free with wear 1
+    ∷ 0 ∷ 9 ∷ 1 ∷ 0  -- block 1 is free, still holds 9 and has wear 1
     ∷ 0 ∷ 0 ∷ 0 ∷ 0  -- block 2 was never used
     ∷ []
 
@@ -105,22 +105,22 @@ levelled =
 unfoldable pub starred : List Case
 starred =
     formats 1 256 256 1 LIMITS  -- N=256, P=256
-    ∷ formats 1 256 257 1 WENT  -- P=257, T=1, D=1
+    ∷ formats 1 256 257 1 WENT  -- the same with P=257
     ∷ formats 0 1 2 1 LIMITS  -- T=0
     ∷ formats 17 1 2 1 LIMITS  -- T=17
     ∷ formats 1 1 2 1000 WENT  -- D=1,000
     ∷ formats 1 1 2 1001 LIMITS  -- D=1,001
-    ∷ accepted 1 1 2 1 (toItsEnd READ 0 0 3 0 [])  -- read on fresh: 3 steps, value 0
-    ∷ accepted 1 1 2 1 (toItsEnd WRITE 0 7 16 0 [])  -- first write: 16 steps
-    ∷ accepted 1 1 2 1 (toItsEnd WRITE 0 7 16 0 (toItsEnd WRITE 0 8 8 0 []))  -- second write to the same number: 8
-    ∷ accepted 1 1 2 1 (toItsEnd UNMAP 0 0 5 0 [])  -- unmap of an unmapped number: 5 steps
-    ∷ accepted 1 1 2 1 (toItsEnd WRITE 0 7 16 0 (toItsEnd UNMAP 0 0 11 0 []))  -- of a mapped one: 11
-    ∷ accepted 1 1 2 1 (toItsEnd LEVEL 0 0 7 0 [])  -- level on fresh: 7 steps, value 0
+    ∷ accepted 1 1 2 1 (toItsEnd READ 0 0 3 0 [])  -- a read of a fresh store: 3 steps, answer 0
+    ∷ accepted 1 1 2 1 (toItsEnd WRITE 0 7 16 0 [])  -- a first write: 16 steps
+    ∷ accepted 1 1 2 1 (toItsEnd WRITE 0 7 16 0 (toItsEnd WRITE 0 8 8 0 []))  -- a second one: 8
+    ∷ accepted 1 1 2 1 (toItsEnd UNMAP 0 0 5 0 [])  -- an unmap that finds nothing mapped: 5 steps
+    ∷ accepted 1 1 2 1 (toItsEnd WRITE 0 7 16 0 (toItsEnd UNMAP 0 0 11 0 []))  -- and one that does: 11
+    ∷ accepted 1 1 2 1 (toItsEnd LEVEL 0 0 7 0 [])  -- a level of a fresh store: 7 steps, answer 0
     ∷ record { t = 1; n = 2; p = 3; d = 2; number = WENT; exchanges = usedTwo (toItsEnd LEVEL 0 0 18 1 []); end = exactly levelled }  -- levelling gives 1, to its bytes
-    ∷ accepted 1 2 3 2 (usedTwo (toItsEnd LEVEL 0 0 18 1 (toItsEnd READ 1 0 6 9 (toItsEnd READ 0 0 3 0 []))))  -- read 1 gives 9, read 0 gives 0
+    ∷ accepted 1 2 3 2 (usedTwo (toItsEnd LEVEL 0 0 18 1 (toItsEnd READ 1 0 6 9 (toItsEnd READ 0 0 3 0 []))))  -- then 1 reads as 9 and 0 as 0
     -- two that stand beside these and bear no star
     ∷ accepted 1 2 3 2 (usedTwo (toItsEnd LEVEL 0 0 18 1 (toItsEnd LEVEL 0 0 7 0 [])))  -- a second level gives 0
-    ∷ accepted 1 2 3 3 (usedTwo (toItsEnd LEVEL 0 0 7 0 []))  -- with D=3 the first level gives 0
+    ∷ accepted 1 2 3 3 (usedTwo (toItsEnd LEVEL 0 0 7 0 []))  -- with D=3 the first gives 0
     ∷ []
 
 pub starred-hold : map happens starred ≡ map expected starred

@@ -11,11 +11,11 @@ use Rattle.meaning.specs.Schedule.{run, steps}
 use Rattle.store.specs.Area.{wellFormed}
 use Rattle.store.specs.Calls.{formatArea, callArea, beginArea, stepArea}
 
--- "120 for T=2, N=1, P=2": so many bytes, all of them 255
+-- the 120 bytes of an area with T=2, N=1 and P=2, all of them 255
 abbrev pub blank : List ℕ
 blank = replicate 120 255
 
--- formatted with T=2, N=1, P=2, D=1, and then these calls
+-- formatted with these sizes and D=1, and then these calls
 abbrev pub after : List Entry → List ℕ
 after = run callArea (formatArea blank 2 1 2 1 .after)
 

@@ -1,5 +1,5 @@
--- From stores to areas of bytes. A call on a well-formed area of bytes answers what the call on its store answers, and leaves a
--- well-formed area of bytes that holds what that call leaves (`after-call`); a schedule likewise (`run-decoded` and the laws beside
+-- From stores to areas of bytes. Where an area is well formed and its elements are bytes, a call answers what the call on its store answers,
+-- and the area after it is such a one again and holds what that call leaves (`after-call`); a schedule likewise (`run-decoded` and the laws beside
 -- it). What is proved of stores is thereby proved of areas.
 -- Assumes nothing.
 use mathlib.Core.Path.{_≡_, refl, sym, _∙_, ap, subst}

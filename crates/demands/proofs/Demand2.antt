@@ -123,7 +123,7 @@ module _ (a : List ℕ) (f : Formatted a) (w : List Entry) (x : AllWords w) wher
       kept (decode (run callArea a w)) k ≡ ebmRead k (obeyAll initial (order callArea decode a w))
   area-manager-holds k alone = ap (λ x. x .content) (area-keeps k alone)
 
-  -- "a written 0 is as good a content as any", and unmap "removes the number from the mapped set"
+  -- a number that 0 was written to is mapped, and an unmapped one isn't: 01, "Sizes and the store area" and "The machine"
   pub area-manager-maps : (k : ℕ) →
       ((v : ℕ) → heldBy v (decode (run callArea a w) .locks k) ≡ true → leavesAlone (decode (run callArea a w) .thread v) ≡ true) →
       isMapped (decode (run callArea a w)) k ≡ obeyAll initial (order callArea decode a w) .mapped k
@@ -142,7 +142,7 @@ pub grown-one-block-each : (a : List ℕ) → Grown a → (k k′ : ℕ) → fre
     (k ≡ k′ → ⊥) → named (decode a .map k) ≡ named (decode a .map k′) → ⊥
 grown-one-block-each a g = one-block-each (decode a) (grown-inv a g)
 
--- "W8 content of p becomes empty": W8 of a grown area always goes, and w is any schedule after it
+-- W8 of a grown area always goes and empties the block; w is any schedule after it
 pub grown-first-write-empty : (a : List ℕ) → Grown a → (t : ℕ) → decode a .thread t .op ≡ WRITE → decode a .thread t .line ≡ 8 →
     (w : List Entry) → AllWords w → EmptyTillW14 callArea decode (callArea a (step t) .after) w t
 grown-first-write-empty a g t op line w x =

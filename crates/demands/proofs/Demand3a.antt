@@ -1,4 +1,4 @@
--- DEMAND 3, first half, over areas of bytes: two threads of an area grown from fresh that can both step, and are not about to take the
+-- DEMAND 3, first half, over areas of bytes: two threads of an area grown from fresh that can both step, and whose next lines don't take the
 -- same lock, may step in either order. Each gives the same number and value, and the bytes at the end are the same.
 -- Where it is met in the middle of two operations, and that it isn't so for the same lock, is computed in Reached.
 -- Assumes nothing.

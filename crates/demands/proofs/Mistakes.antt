@@ -1,7 +1,7 @@
 -- 01, "Where a reasonable person goes wrong", over areas grown from fresh. Assumes nothing.
 --  * grown-headers-agree: where nobody owns the headers, every mapped header agrees with the map, and every entry of the map with its
 --    block's header.
---  * grown-headers-between: they agree exactly where no thread stands between W7 and W10, U6 and U7 or L10 and L13.
+--  * grown-headers-between: they agree exactly where no thread stands between W7 and W10, between U6 and U7 or between L10 and L13.
 --  * grown-wear-under-H: a call that changes some block's wear is a step of a thread that holds H before it and after it.
 use mathlib.Core.Path.{_≡_, sym, subst}
 use mathlib.Core.Bool.{true, false}

@@ -1,5 +1,5 @@
--- Begin and step keep a store in range, of any such store, grown from fresh or made by hand: so no call turns a well-formed area into
--- a malformed one. What an act puts is in its bounds (Acts of the crate meaning).
+-- Begin and step keep a store in range, of any such store, grown from fresh or made by hand: so an area that was well formed is so after
+-- every call. What an act puts is in its bounds (Acts of the crate meaning).
 -- Assumes nothing.
 use mathlib.Core.Path.{_≡_, refl}
 use mathlib.Core.Bool.{Bool, true, false, _&&_, _||_}

@@ -2,11 +2,11 @@
 --  * needs-fault: each line goes on an area made by hand that has what the line needs, and meets FAULT (a take: BLOCKED) where one thing of it is
 --    lacking; both where all else is free and where all else is the thread's.
 --  * meetings-come, meetings-grown: areas grown from fresh where two threads are open at once. In the middle of a write and of a levelling
---    that moves a block they step in either order, to the same bytes; about to take the same lock, whoever comes second is BLOCKED, and
+--    that moves a block they step in either order, to the same bytes; where both are at a take of one lock, whoever comes second is BLOCKED, and
 --    the bytes are others.
---  * overtaking-comes: a read that overtakes a write stands before it in the order of last locks and gives empty; the bytes are those of
+--  * overtaking-comes: a read that overtakes a write is before it in the order of last locks and gives empty; the bytes are those of
 --    the operations run one at a time in that order.
---  * after-U10-comes: a read finishes with empty after U10, while the unmap is still open, and stands after it in the order.
+--  * after-U10-comes: a read finishes with empty when U10 is done and U11 isn't, and stands after the unmap in the order.
 --  * reuse-comes, reuse-grown: an area grown from fresh at W8 of a write whose block still holds what was written before it was freed; W8
 --    empties it, and it is empty until W14.
 --  * largest-wear-stays, finished-with, ties-chosen: on areas made by hand, U7 and L13 leave the largest wear as it is, and the one below goes up to
@@ -119,7 +119,7 @@ reuse-grown = run-formed 1 1 2 1 reusing refl
 
 -- ---- one step on an area made by hand
 
--- "Wear at 4,294,967,295 stays there", at U7 and at L13, and one below goes up to it
+-- wear at 4,294,967,295 is left as it is, at U7 and at L13, and one below goes up to it
 pub largest-wear-stays :
     freedFrom UNMAP 7 4294967294 ∷ freedFrom UNMAP 7 4294967295 ∷ freedFrom LEVEL 13 4294967294 ∷ freedFrom LEVEL 13 4294967295 ∷ []
     ≡ 4294967295 ∷ 4294967295 ∷ 4294967295 ∷ 4294967295 ∷ []
@@ -133,7 +133,7 @@ pub finished-with :
 unfolding wellFormed
 finished-with = refl
 
--- "lowest number on ties"
+-- of equally worn blocks the lowest number, as "from" and as "to"
 pub ties-chosen : choice tied ≡ (2, 0)
 unfolding wellFormed
 ties-chosen = refl

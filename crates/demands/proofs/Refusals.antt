@@ -229,7 +229,7 @@ module _ (a : List ℕ) where
 
 -- ---- what a call leaves
 
--- the number and the value of a call that goes: "the value is 0 except where an operation finishes"
+-- the number and the value of a call that goes: it finishes an operation, or its value is 0
 pub record Fair (number value : ℕ) : Type 0 where
   pub low : number ≤ FINISHED
   pub unfinished : (number ≡ FINISHED → ⊥) → value ≡ 0

@@ -7,7 +7,7 @@ use Rattle.meaning.specs.Schedule.{AtTake, placed}
 use Rattle.store.specs.Area.{decode}
 use Rattle.demands.specs.RefusalTables.{CanStep}
 
--- its operation has its place in the order, its next line takes no lock, and it can step
+-- its operation has its place, its next line takes no lock, and it can step
 pub record TakesNoMore (a : List ℕ) (t : ℕ) : Type 0 where
   pub place : placed (decode a) (decode a .thread t) ≡ true
   pub no-take : AtTake (decode a .thread t) → ⊥

@@ -22,7 +22,7 @@ inQ = 2
 -- 0 for free, or 1, so that locks and owners are thread 0's and the blocks number 0's
 abbrev pub made : ℕ → ℕ → ℕ → List ℕ
 made w op line =
-    2 ∷ 1 ∷ 3 ∷ 1 ∷ w ∷ w  -- T, N, P, D, header lock, headers' owner
+    2 ∷ 1 ∷ 3 ∷ 1 ∷ w ∷ w  -- the four sizes, H and the headers' owner
     ∷ op ∷ line ∷ 0 ∷ 0 ∷ inP ∷ inQ ∷ 0  -- thread 0
     ∷ 0 ∷ 0 ∷ 0 ∷ 0 ∷ 0 ∷ 0 ∷ 0  -- thread 1 is idle
     ∷ 0 ∷ w  -- number 0 is unmapped; its lock
@@ -91,7 +91,7 @@ finishes samples = record { samples = samples; number = FINISHED; otherwise = FA
 abbrev pub takes : ℕ → Row
 takes at = record { samples = nobodys at ∷ []; number = WENT; otherwise = BLOCKED }
 
--- "content needs the block owned by this thread and its header not free; writing a header needs headers and block"
+-- 01, "A line's needs", of the lines on a content, and of those that write a header
 abbrev pub contentNeeds : ℕ → List Sample
 contentNeeds m = held (ownAt m) ∷ used m ∷ []
 

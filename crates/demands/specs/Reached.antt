@@ -127,8 +127,8 @@ Each A (m ∷ l) = A m × Each A l
 
 -- ---- operations that overlap
 
--- what a schedule comes to, on a formatted area of two threads: the operations in the order of their last locks, what each thread has
--- finished with, which of the two is idle, and whether the bytes are those that the operations leave one at a time
+-- what a schedule comes to, on a formatted area of two threads: the operations in the order of their last locks, the answers of each
+-- thread, which of the two is idle, and whether the bytes are those that the operations leave one at a time
 pub record Overlapped : Type 0 where
   pub order : List Operation
   pub zeroth : List Answered
@@ -168,8 +168,7 @@ overtaken =
       alike = true;
     }
 
--- "after U10 a read may finish with empty while the unmap is still open": thread 0 writes number 0 and unmaps it, up to U10; then thread 1
--- reads it.
+-- 01, the end of "The lines", on U10: thread 0 writes number 0 and unmaps it, up to U10; then thread 1 reads it.
 abbrev pub slipping : List Entry
 slipping = does 0 WRITE 0 7 16 (does 0 UNMAP 0 0 10 (does 1 READ 0 0 3 []))
 
@@ -215,7 +214,7 @@ reusing = does 0 WRITE 0 7 16 (does 0 UNMAP 0 0 11 (does 0 WRITE 0 8 7 []))
 abbrev pub goesAt : ℕ → ℕ → ℕ → Stepped
 goesAt line before after = record { op = WRITE; line = line; number = WENT; before = before; after = after }
 
--- "A freed block keeps its content word": 7 until W8, then empty until W14
+-- the freed block still holds its content: 7 until W8, then empty until W14
 abbrev pub reused : List Stepped
 reused =
     goesAt 8 7 0
@@ -244,7 +243,7 @@ finishedWith op line h =
 -- headers
 abbrev pub tied : List ℕ
 tied =
-    1 ∷ 2 ∷ 5 ∷ 2 ∷ 1 ∷ 1  -- T, N, P, D, header lock, headers' owner
+    1 ∷ 2 ∷ 5 ∷ 2 ∷ 1 ∷ 1  -- the four sizes, H and the headers' owner
     ∷ LEVEL ∷ 3 ∷ 0 ∷ 0 ∷ 0 ∷ 0 ∷ 0  -- thread 0
     ∷ 3 ∷ 4 ∷ 0 ∷ 0  -- numbers 0 and 1 are on blocks 2 and 3; their locks
     ∷ 0 ∷ 0 ∷ 3 ∷ 0  -- block 0

@@ -17,8 +17,7 @@ use Rattle.store.specs.Layout.{size}
 use Rattle.store.specs.Area.{decode, wellFormed}
 use Rattle.store.specs.Calls.{formatArea, beginArea, stepArea}
 
--- ---- the tables of refusals: 01, "Order: format LIMITS, SHAPE; begin SHAPE, THREAD, BUSY, OPERATION, LOGICAL; step SHAPE, THREAD,
--- IDLE, then the line's own."
+-- ---- the tables of refusals, each in the order that 01, "Numbers given back", states for its call
 
 -- thread t is below T; it has no open work
 abbrev pub known : List ℕ → ℕ → Bool
@@ -27,7 +26,7 @@ known a t = ltb t (decode a .threads)
 abbrev pub rests : List ℕ → ℕ → Bool
 rests a t = isIdle (decode a .thread t)
 
--- the operation is one of 1 to 4; the number is below N, for operations 1 to 3
+-- the operation is one of 1 to 4; the number is below N, or the operation has none
 abbrev pub operable : ℕ → Bool
 operable op = within WRITE LEVEL op
 
@@ -60,7 +59,7 @@ pub record BeginRefusals (a : List ℕ) (t op n c : ℕ) : Type 0 where
       (beginArea a t op n c .number ≡ WENT)
       ↔ Past (wellFormed a ∷ known a t ∷ rests a t ∷ operable op ∷ []) (numbered a op n ≡ true)
 
--- of thread t's next line: a need of it isn't met; it is a take whose lock isn't free; it is its operation's last
+-- of thread t's next line: a need of it isn't met; it takes a lock that isn't free; it is its operation's last
 abbrev pub lacking : List ℕ → ℕ → Bool
 lacking a t = fails (decode a) t (decode a .thread t) (asks (nextAct (decode a .thread t)))
 
@@ -95,7 +94,7 @@ pub record Refusals (a : List ℕ) : Type 0 where
 
 -- ---- values
 
--- "Each call gives a number and a value; the value is 0 except where an operation finishes": format and begin finish none
+-- 01, "Numbers given back": where no operation finishes, the value is 0; format and begin finish none
 pub record UnfinishedValue (a : List ℕ) : Type 0 where
   pub format : (t n p d : ℕ) → formatArea a t n p d .value ≡ 0
   pub begin : (t op n c : ℕ) → beginArea a t op n c .value ≡ 0
@@ -108,7 +107,7 @@ pub record Open (a : List ℕ) (t : ℕ) : Type 0 where
   pub below : t < decode a .threads
   pub busy : rests a t ≡ false
 
--- "A thread can step when its step would give WENT or FINISHED."
+-- 01, "The machine": its step would answer WENT or FINISHED, the two least numbers
 abbrev pub CanStep : List ℕ → ℕ → Type 0
 CanStep a t = stepArea a t .number ≤ FINISHED
 

@@ -1,4 +1,4 @@
--- What demand 3, first half, over areas speaks of: about to take the same lock, and steps that may go in either order.
+-- What demand 3, first half, over areas speaks of: two threads at a take of one lock, and steps that may go in either order.
 use mathlib.Core.Path.{_≡_}
 use mathlib.Core.List.{List}
 use Prim.Native.Nat.{ℕ}
@@ -7,7 +7,7 @@ use Rattle.meaning.specs.declared.Thread.{Thread}
 use Rattle.meaning.specs.Schedule.{nextAct}
 use Rattle.store.specs.Calls.{stepArea}
 
--- two threads with these records are about to take the same lock: H, at W1, U1 and L1, or the lock of one number, at W2, R1, U2 and L6
+-- the next lines of two threads with these records take the same lock: H, at W1, U1 and L1, or the lock of one number, at W2, R1, U2 and L6
 pub data SameLock (r q : Thread) : Type 0 where
   both-H : nextAct r ≡ TakeH → nextAct q ≡ TakeH → SameLock r q
   both-N : nextAct r ≡ TakeN → nextAct q ≡ TakeN → r .n ≡ q .n → SameLock r q

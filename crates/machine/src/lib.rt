@@ -96,7 +96,7 @@ fn long(x: u32) -> u64
     x as u64
 }
 
-// L3's "to": the free block with most wear, the lowest number on ties. `bar` is the least wear that beats what was found, 0 at first.
+// L3's "to": the most worn free block, the lowest number on ties. `bar` is the least wear that beats what was found, 0 at first.
 fn to_block<'a>(header: &'a Blocks, wear: &'a Blocks, blocks: u32) -> Found
     requires { ⌜ blocks ≤ mostBlocks ⌝ }
     ensures { λ r. ⌜ r ≡ toBlock (table (now (header .entry))) (table (now (wear .entry))) blocks ⌝ }
@@ -125,7 +125,7 @@ fn to_block<'a>(header: &'a Blocks, wear: &'a Blocks, blocks: u32) -> Found
 // More than any word.
 const BEYOND: u64 = 4294967296;
 
-// L3's "from": the mapped block with least wear, the lowest number on ties. `least` is the wear of what was found, BEYOND at first.
+// L3's "from": the least worn mapped block, the lowest number on ties. `least` is the wear of what was found, BEYOND at first.
 fn least_worn<'a>(header: &'a Blocks, wear: &'a Blocks, blocks: u32) -> Found
     requires { ⌜ blocks ≤ mostBlocks ⌝ }
     ensures { λ r. ⌜ r ≡ leastWorn (table (now (header .entry))) (table (now (wear .entry))) blocks ⌝ }
@@ -151,7 +151,7 @@ fn least_worn<'a>(header: &'a Blocks, wear: &'a Blocks, blocks: u32) -> Found
     }
 }
 
-// "If there is no mapped block, or wear of 'to' is less than wear of 'from' plus D, then 'from' becomes 'to'": the sum doesn't wrap.
+// "from" after the distance is looked at: "to" itself where there is nothing to move. The sum is of 64 bits, so that it doesn't wrap.
 fn from_block(wear: &Blocks, distance: u32, to: u32, found: Found) -> u32
     requires { ⌜ (to < mostBlocks) × (placeOf found < mostBlocks) ⌝ }
     ensures { λ r. ⌜ r ≡ fromBlock (table (now (wear .entry))) distance to found ⌝ }

@@ -1,4 +1,4 @@
--- Either order, over stores: two threads that can both step, and are not about to take the same lock, may step in either order. Each
+-- Either order, over stores: two threads that can both step, and whose next lines don't take the same lock, may step in either order. Each
 -- answers the same, and the store is the same at the end.
 -- What a step changes, its thread has what guards it (`Guards`), so two steps change no common word; what a step looks at, its thread
 -- has what guards it too (tested at each line), so it comes to the same after the other one.

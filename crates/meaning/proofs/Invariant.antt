@@ -10,14 +10,14 @@
 --  * p free, q free, p headed, q headed. A content line needs a header; a header is written where none is, so that no number has two
 --    blocks; what W5 and L3 found free is so until W7 and L10.
 --  * h names n, h heads p, p apart from q. The word that L10 writes is n's, and L13 frees, L14 lets go, the one block and not the other.
---  * astray. Between W7 and W10, U6 and U7, L10 and L13 a header of this thread points to a number that isn't mapped to its block.
+--  * astray. Between W7 and W10, between U6 and U7 and between L10 and L13 a header of this thread names a number that isn't mapped to its block.
 --  * chosen now, c of p, q has c, c of n. What levelling chose and copied, a write wrote and a read read is still there: for what an operation
 --    leaves and answers, not for demand 1.
 --  * unset. A register that no line has set is as begin left it, so that the lines before the last lock can be run again.
 -- GUARDS says which lock or owner a thread has when it changes a word. A thread that knows something of a word has what guards that
 -- word, so the word stays as it is while others step: no two lines and no two acts are ever compared.
--- MAP AND HEADERS: the map points to blocks whose header points back, at all times (`Agrees`); a header points to a number that is
--- mapped to its block, unless that block is astray (`mapped`). They agree when nobody owns the headers.
+-- MAP AND HEADERS: an entry of the map points to a block, and its header back to the number, at all times (`Agrees`); a header points to
+-- a number that is mapped to its block, unless that block is astray (`mapped`). They agree where the headers have no owner.
 --
 -- Definitions only; the files of the room use them:
 --  * Keeping: a step of one thread keeps what the others hold and know, and so the invariant.
@@ -135,7 +135,7 @@ q-astray = row never never never (11 – 12)
 
 -- -- what it knows of wear and contents
 
--- p and q are what choosing gives now
+-- choosing would give p and q now
 abbrev pub chosen-now : Thread → Bool
 chosen-now = row never never never (4 – 6)
 
@@ -147,7 +147,7 @@ c-of-p = row never never never (9 – 12)
 abbrev pub q-has-c : Thread → Bool
 q-has-c = row never never never (12 – 12)
 
--- c is what n's block holds
+-- the content of n's block is c
 abbrev pub c-of-n : Thread → Bool
 c-of-n = row (15 – 16) (5 – 6) never never
 
@@ -188,14 +188,14 @@ ownsBlock r m = ownsQ r && eqb (r .q) m || ownsP r && eqb (r .p) m
 abbrev pub leadsAstray : Thread → ℕ → Bool
 leadsAstray r m = q-astray r && eqb (r .q) m || p-astray r && eqb (r .p) m
 
--- the lock and owner words are the flags, for each thread v with its record r
+-- the flags say what stands in the lock and owner words, for each thread v with its record r
 pub record Holds (s : Store) (v : ℕ) (r : Thread) : Type 0 where
   pub lock : heldBy v (s .lock) ≡ holdsH r
   pub owner : heldBy v (s .owner) ≡ ownsHeaders r
   pub locks : (k : ℕ) → heldBy v (s .locks k) ≡ holdsLock r k
   pub own : (m : ℕ) → heldBy v (s .own m) ≡ ownsBlock r m
 
--- p and q are what choosing gives now
+-- choosing would give p and q now
 abbrev pub Chosen : Store → Thread → Type 0
 Chosen s r =
     record {

@@ -35,7 +35,7 @@ check holds number o = cond holds o (refused number)
 abbrev pub isIdle : Thread → Bool
 isIdle r = eqb (r .op) 0
 
--- "Begin writes operation, line 1, n and c; a read or unmap stores c as 0, levelling stores n and c as 0. Other registers are 0."
+-- 01, the end of "Sizes and the store area": c is kept for a write alone, n for all but a levelling
 abbrev pub storedN : ℕ → ℕ → ℕ
 storedN op n = cond (eqb op LEVEL) 0 n
 
@@ -55,7 +55,7 @@ beginning s t op n c =
 
 -- ---- step
 
--- "A finishing step makes the thread's record seven zeros"
+-- 01, "Choosing": what is left of a finished operation is an idle record
 abbrev pub told : Store → ℕ → Verdict → Outcome
 told s t Blocked = refused BLOCKED
 told s t Fault = refused FAULT
@@ -70,7 +70,7 @@ stepping s t =
 
 -- ---- either
 
--- "A schedule is a list of entries, each a begin (thread, operation, logical number, word) or a step (thread)."
+-- 01, "The machine": an entry of a schedule, with its thread first; a begin has operation, logical number and word besides
 pub data Entry : Type 0 where
   begin : ℕ → ℕ → ℕ → ℕ → Entry
   step : ℕ → Entry

@@ -25,15 +25,15 @@ abbrev pub best : (ℕ → Bool) → (ℕ → ℕ → Bool) → ℕ → Found
 best eligible beats zero = Nobody
 best eligible beats (suc k) = challenge (eligible k) beats k (best eligible beats k)
 
--- "'to' is the free block with most wear"
+-- "to", the most worn of the free blocks
 abbrev pub toBlock : (ℕ → ℕ) → (ℕ → ℕ) → ℕ → Found
 toBlock header wear = best (λ k. free (header k)) (λ k m. ltb (wear m) (wear k))
 
--- "'from' the mapped block with least"; "'mapped' means its header isn't 0"
+-- "from", the least worn of the mapped blocks, which are those that aren't free
 abbrev pub leastWorn : (ℕ → ℕ) → (ℕ → ℕ) → ℕ → Found
 leastWorn header wear = best (λ k. not (free (header k))) (λ k m. ltb (wear k) (wear m))
 
--- "If there is no mapped block, or wear of 'to' is less than wear of 'from' plus D, then 'from' becomes 'to'"
+-- "from" in the end: "to" itself, which says that nothing is moved, where nothing is mapped or the wear of "to" doesn't reach that of "from" and D
 abbrev pub fromBlock : (ℕ → ℕ) → ℕ → ℕ → Found → ℕ
 fromBlock wear distance to Nobody = to
 fromBlock wear distance to (At f) = cond (ltb (wear to) (wear f + distance)) to f

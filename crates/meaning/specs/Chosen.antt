@@ -1,5 +1,5 @@
 -- 01, "Choosing", said of the block that is chosen and not of the search for it: nothing here uses Choosing. A block is one of the first k;
--- a header is 0 for free, and "'mapped' means its header isn't 0".
+-- its header is 0 where it is free, and it is "mapped" where that isn't so.
 use mathlib.Core.Path.{_≡_}
 use mathlib.Core.Logic.{_↔_}
 use Prim.Native.Nat.{ℕ, _<_, _≤_}
@@ -24,14 +24,14 @@ pub record IsLowest (header : ℕ → ℕ) (m : ℕ) : Type 0 where
   pub is-free : Free header m
   pub lower : (j : ℕ) → j < m → Mapped header j
 
--- "'to' is the free block with most wear", "lowest number on ties": one with a lower number has less
+-- "to": a free block than which none has more wear; "lowest number on ties": one with a lower number has less
 pub record IsTo (header wear : ℕ → ℕ) (k m : ℕ) : Type 0 where
   pub inside : m < k
   pub is-free : Free header m
   pub most : (j : ℕ) → j < k → Free header j → wear j ≤ wear m
   pub lower : (j : ℕ) → j < m → Free header j → wear j < wear m
 
--- "'from' the mapped block with least", "lowest number on ties": one with a lower number has more
+-- "from": a mapped block than which none has less wear; "lowest number on ties": one with a lower number has more
 pub record IsLeastWorn (header wear : ℕ → ℕ) (k m : ℕ) : Type 0 where
   pub inside : m < k
   pub is-mapped : Mapped header m

@@ -1,4 +1,4 @@
--- Wear and answers, said without `perform`: 01, U7 and L13 "wear of p up by one", "Wear at 4,294,967,295 stays there", and what an operation
+-- Wear and answers, said without `perform`: 01, where U7 and L13 count one erase of p, up to 4,294,967,295 and no further, and what an operation
 -- finishes with. Of every store, grown from fresh or made by hand.
 use mathlib.Core.Path.{_≡_}
 use mathlib.Core.Bool.{Bool, false, cond, _&&_, _||_}
@@ -26,7 +26,7 @@ abbrev pub WearCounts : Store → Store → Entry → ℕ → Type 0
 WearCounts s s′ e number =
     (m : ℕ) → s′ .wear m ≡ cond (erases s e number m && ltb (s .wear m) mostWord) (s .wear m + 1) (s .wear m)
 
--- what the operation of a thread at its last line finishes with: "finish with c" at R6, "with 1 if h is not free, else 0" at L18, and
--- "finishing values of write and unmap are 0"
+-- what the operation of a thread at its last line finishes with: c at R6, 0 or 1 at L18, by register h, and 0 at W16 and
+-- U11
 abbrev pub finishesWith : Thread → ℕ
 finishesWith r = cond (eqb (r .op) READ) (r .c) (cond (eqb (r .op) LEVEL) (cond (free (r .h)) 0 1) 0)

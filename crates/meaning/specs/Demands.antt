@@ -17,7 +17,7 @@ use Rattle.meaning.specs.Schedule.{Operation, operation, Answered, emit,
 
 -- ---- what a store keeps
 
--- number k is mapped: "Map: N words, 0 unmapped"
+-- number k is mapped
 abbrev pub isMapped : Store → ℕ → Bool
 isMapped s k = not (free (s .map k))
 
@@ -59,7 +59,7 @@ pending u s =
 abbrev pub placedOp : ℕ → Store → List ℕ
 placedOp u s = emit (placed s (s .thread u)) (s .thread u .op) []
 
--- l is what is owed to thread u: one answer, of its open operation, if that has its place in the order
+-- l is what is owed to thread u: one answer, of its open operation, if that has its place
 pub data Owed (s : Store) (u : ℕ) (l : List Answered) : Type 0 where
   none-owed : placed s (s .thread u) ≡ false → l ≡ [] → Owed s u l
   one-owed : placed s (s .thread u) ≡ true → (v : ℕ) → l ≡ record { op = s .thread u .op; value = v } ∷ [] → Owed s u l
@@ -181,7 +181,7 @@ module _ {S : Type 0} (call : S → Entry → Reply S) (seen : S → Store) (s :
     pub owed : Owed (seen (run call s w)) u rest-owed
     pub answers : finishedBy call seen s u one-by-one ≡ finishedBy call seen s u w ++ rest-owed
 
-  -- "W8 content of p becomes empty". Where s is what W8 of thread t left: as long as t finishes nothing and hasn't done W14, its block
+  -- W8 empties the content. Where s is what W8 of thread t left: as long as t finishes nothing and hasn't done W14, its block
   -- is empty.
   abbrev pub EmptyTillW14 : ℕ → Type 0
   EmptyTillW14 t =

@@ -11,14 +11,14 @@ use Rattle.meaning.specs.Holding.{heldBy, naming}
 use Rattle.meaning.specs.Programs.{WRITE, UNMAP, LEVEL}
 use Rattle.meaning.specs.Call.{Entry, step}
 
--- "Between W7 and W10, U6 and U7, L10 and L13": the thread has done the first of the two lines, and the second not yet
+-- between W7 and W10, between U6 and U7, or between L10 and L13: the thread has done the first of the two lines, and the second not yet
 abbrev pub between : Thread → Bool
 between r =
     eqb (r .op) WRITE && within 8 10 (r .line)
     || eqb (r .op) UNMAP && within 7 7 (r .line)
     || eqb (r .op) LEVEL && within 11 13 (r .line)
 
--- "every mapped header agree with the map", and every entry of the map with its block's header
+-- each header that isn't free has its number mapped to its block, and each entry of the map has its number in its block's header
 abbrev pub HeadersAgree : Store → Type 0
 HeadersAgree s = (m k : ℕ) → (s .header m ≡ naming k) ↔ (s .map k ≡ naming m)
 
@@ -29,6 +29,6 @@ pub record UnderH (s s′ : Store) (e : Entry) : Type 0 where
   pub before : heldBy who (s .lock) ≡ true
   pub after : heldBy who (s′ .lock) ≡ true
 
--- "Wear may change only under H."
+-- H guards wear
 abbrev pub WearUnderH : Store → Store → Entry → Type 0
 WearUnderH s s′ e = (m : ℕ) → (s′ .wear m ≡ s .wear m → ⊥) → UnderH s s′ e

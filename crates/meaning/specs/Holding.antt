@@ -1,5 +1,5 @@
--- Lock and owner words, and the words that name a block or a number. 01: "A lock or owner word is 0 for free, else thread plus one",
--- a map entry is "0 unmapped, else physical number plus one", a header "0 for free, else logical number plus one".
+-- Lock and owner words, and the words that name a block or a number. 01, "Sizes and the store area": 0 says
+-- that nobody has it, that nothing is mapped, that the block is free; any other word is one more than a thread, a block or a logical number.
 -- No word is taken apart outside this file.
 use mathlib.Core.Bool.{Bool}
 use Prim.Native.Nat.{ℕ, _+_, _-_}

@@ -1,5 +1,5 @@
 -- The atomic erase-block manager of source document 000, Fig. 2, as 01, "The machine", mends it: a read's index is the logical
--- number, and unmap removes the number from the mapped set. It knows nothing of blocks, wear, locks or threads.
+-- number, and unmap takes the number out of the mapped set. It knows nothing of blocks, wear, locks or threads.
 use mathlib.Core.Bool.{Bool, true, false, cond}
 use Prim.Native.Nat.{ℕ}
 use Rattle.meaning.specs.Table.{upd}

@@ -44,7 +44,7 @@ abbrev pub allMet : Store → ℕ → Thread → List Need → Bool
 allMet s t r [] = true
 allMet s t r (x ∷ l) = met s t r x && allMet s t r l
 
--- what an act asks for: a free lock that it takes, H or n.lock, and else it is BLOCKED; or that its needs are met, and else it meets FAULT
+-- what an act asks for: that the lock which it takes, H or n.lock, is free, and else it is BLOCKED; or that its needs are met, and else it meets FAULT
 pub data Asks : Type 0 where
   takes-H : Asks
   takes-N : Asks
@@ -53,33 +53,33 @@ pub data Asks : Type 0 where
   no-line : Asks
 
 abbrev pub asks : Act → Asks
--- "a take whose lock isn't free, held by itself included"
+-- a take: that nobody has the lock, this thread included
 asks TakeH = takes-H
 asks TakeN = takes-N
--- "releasing a lock needs to hold it"
+-- a release: that this thread holds the lock
 asks ReleaseH = needs (holds-H ∷ [])
 asks (FinishH a) = needs (holds-H ∷ [])
 asks ReleaseN = needs (holds-N ∷ [])
 asks (FinishN a) = needs (holds-N ∷ [])
--- "Owning needs no owner."
+-- owning: that there is no owner
 asks OwnHeaders = needs (unowned-headers ∷ [])
 asks (Own b) = needs (unowned b ∷ [])
--- "Letting go, content and header lines need ownership": letting go
+-- letting go: that this thread is the owner
 asks LetGoHeaders = needs (owns-headers ∷ [])
 asks (LetGo b) = needs (owns b ∷ [])
--- "content needs the block owned by this thread and its header not free"
+-- content lines: that this thread owns the block, and that the block isn't free
 asks EmptyContent = needs (owns P ∷ headed P ∷ [])
 asks ReadContent = needs (owns P ∷ headed P ∷ [])
 asks (WriteContent b) = needs (owns b ∷ headed b ∷ [])
--- "writing a header needs headers and block"
+-- lines that write a header: that this thread owns the headers, and the block too
 asks WriteHeaderN = needs (owns-headers ∷ owns P ∷ [])
 asks WriteHeaderH = needs (owns-headers ∷ owns Q ∷ [])
 asks FreeHeader = needs (owns-headers ∷ owns P ∷ [])
--- "L4, W5 and L3 need headers; W5 and L3 also need some free block"
+-- L4, W5 and L3: that this thread owns the headers; W5 and L3 besides: that some block is free
 asks ReadHeader = needs (owns-headers ∷ [])
 asks PickFree = needs (owns-headers ∷ some-free ∷ [])
 asks Choose = needs (owns-headers ∷ some-free ∷ [])
--- "Map lines have no need."
+-- map lines: nothing
 asks (MapTo b) = needs []
 asks Unmap = needs []
 -- nor have those that only look at the map, or at register h

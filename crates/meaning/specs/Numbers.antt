@@ -34,6 +34,6 @@ FAULT = 16
 abbrev pub LIMITS : ℕ
 LIMITS = 17
 
--- 01, the end of "Numbers given back": number and value come back together
+-- 01, the end of "Numbers given back": both in one word of 64 bits
 abbrev pub packed : ℕ → ℕ → ℕ
 packed number value = number * 4294967296 + value

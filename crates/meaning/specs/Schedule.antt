@@ -52,7 +52,7 @@ nextAct r = actAt (r .op) (r .line)
 abbrev pub AtTake : Thread → Type 0
 AtTake r = (nextAct r ≡ TakeH) ⊎ (nextAct r ≡ TakeN)
 
--- "An operation's last lock is taken at W2, R1, U2, L6, or at L1 where nothing is moved": t's next step, if it goes, takes its last lock
+-- t's next step, if it goes, takes its last lock: it is at W2, R1, U2 or L6, or at L1 and would move nothing
 abbrev pub takesLast : Store → Thread → Bool
 takesLast s r =
     eqb (r .line) (lastTake (r .op))
@@ -66,7 +66,7 @@ pastLast r = ltb (lastTake (r .op)) (r .line)
 abbrev pub mayMove : Thread → Bool
 mayMove r = eqb (r .op) LEVEL && ltb unmovedTake (r .line) && ltb (r .line) (lastTake (r .op))
 
--- "An open operation that has taken it has its place in the order"
+-- the operation has its place: it is open, and has taken its last lock
 abbrev pub placed : Store → Thread → Bool
 placed s r = pastLast r || mayMove r && not (moves (s .header) (s .wear) (s .blocks) (s .distance))
 
@@ -82,7 +82,7 @@ module _ {S : Type 0} (call : S → Entry → Reply S) where
   replies s [] = []
   replies s (e ∷ w) = (call s e .number, call s e .value) ∷ replies (call s e .after) w
 
-  -- "A store grown from fresh is one that a schedule left, starting from a format that gave WENT."
+  -- 01, "grown from fresh": formatted, with WENT, and then called, as often as one likes
   pub data Grown (Fresh : S → Type 0) : S → Type 0 where
     formatted : {s : S} → Fresh s → Grown Fresh s
     called : {s : S} → Grown Fresh s → (e : Entry) → Words e → Grown Fresh (call s e .after)
@@ -152,7 +152,7 @@ abbrev pub obeyAll : Manager → List Operation → Manager
 obeyAll m [] = m
 obeyAll m (o ∷ l) = obeyAll (obey o m) l
 
--- "finishing values of write and unmap are 0"
+-- a write and an unmap are owed 0
 abbrev pub owed : Operation → Manager → Answered
 owed o m = record { op = o .op; value = cond (eqb (o .op) READ) (ebmRead (o .number) m) 0 }
 

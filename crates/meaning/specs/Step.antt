@@ -31,7 +31,7 @@ use Rattle.meaning.specs.Choosing.{lowestFree, toBlock, leastWorn, fromB
 abbrev pub goto : ℕ → Thread → Thread
 goto l r = record { op = r .op; line = l; n = r .n; c = r .c; p = r .p; q = r .q; h = r .h }
 
--- "Where no line is named, the next follows."
+-- to the following line, for lines that name no other
 abbrev pub onward : Thread → Thread
 onward r = goto (r .line + 1) r
 
@@ -95,7 +95,7 @@ onOwn m w = effect Stay Stay Keep Keep Keep Keep Keep (Put m w)
 abbrev pub need : Bool → Verdict → Verdict
 need met v = cond met v Fault
 
--- a take: BLOCKED where its lock isn't free, held by itself included
+-- a take: BLOCKED where its lock isn't free, whoever holds it
 abbrev pub take : ℕ → Verdict → Verdict
 take w v = cond (free w) v Blocked
 
@@ -107,11 +107,11 @@ next r e = Go (onward r) e
 abbrev pub branch : ℕ → Thread → Thread → Verdict
 branch w r r′ = cond (free w) (Go r nothing) (Go r′ nothing)
 
--- "Wear at 4,294,967,295 stays there."
+-- 01, "Choosing": the largest wear, 4,294,967,295, goes up no more
 abbrev pub worn : ℕ → ℕ
 worn w = cond (ltb w mostWord) (w + 1) w
 
--- 1 where h is not free, else 0
+-- 0 where h is free, 1 where it isn't
 abbrev pub moved : ℕ → ℕ
 moved h = cond (free h) 0 1
 

@@ -12,20 +12,20 @@ pub record Store : Type 0 where
   pub lock : ℕ
   pub owner : ℕ
   pub thread : ℕ → Thread
-  -- of a logical number: 0 unmapped, else physical number plus one; and its lock
+  -- of a logical number: 0 where it is unmapped, else one more than its block; and its lock
   pub map : ℕ → ℕ
   pub locks : ℕ → ℕ
-  -- of a block: 0 free, else logical number plus one; its content, wear and owner
+  -- of a block: 0 where it is free, else one more than its number; its content, wear and owner
   pub header : ℕ → ℕ
   pub content : ℕ → ℕ
   pub wear : ℕ → ℕ
   pub own : ℕ → ℕ
 
--- "an idle record (operation 0) is seven zeros"
+-- an idle record: all seven words are 0
 abbrev pub idle : Thread
 idle = record { op = 0; line = 0; n = 0; c = 0; p = 0; q = 0; h = 0 }
 
--- "Fresh: sizes set, all else 0."
+-- a fresh store has its sizes, and else nothing but 0
 abbrev pub fresh : ℕ → ℕ → ℕ → ℕ → Store
 fresh t n p d =
     record {

@@ -1,4 +1,4 @@
--- Tables as functions from numbers, as in source document 000 (`Blocks : nat → block`), and what is said of all entries below a size.
+-- Tables as functions from numbers, as source document 000 has them for blocks, and what is said of all entries below a size.
 use mathlib.Core.Bool.{Bool, true, cond, _&&_}
 use Prim.Native.Nat.{ℕ, zero, suc}
 use lib.Dec.{eqb, ltb}

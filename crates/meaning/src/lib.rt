@@ -7,7 +7,7 @@ pub enum Reg {
     Q,
 }
 
-// What an operation finishes with: 0; register c; or 1 if register h is not free, else 0.
+// What an operation finishes with: 0; register c; or, by register h, 0 where it is free and else 1.
 pub enum Answer {
     Zero,
     C,

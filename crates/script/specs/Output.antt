@@ -1,5 +1,5 @@
 -- 01, "The script program": what is printed for a whole input. The store is the area of the last accepted `f`; before it there is none,
--- which is the empty area: "Before the first accepted `f`, `b` and `s` give SHAPE" is what begin and step answer on it.
+-- which is the empty area: that `b` and `s` then answer SHAPE is what begin and step say of it.
 use mathlib.Core.Bool.{cond}
 use mathlib.Core.List.{List, [], _++_}
 use Prim.Native.Nat.{ℕ, _+_, _*_}
@@ -16,7 +16,7 @@ use Rattle.script.specs.Printing.{printed, mostPrinted}
 
 -- ---- the numbers that only the program gives
 
--- "A line of any other form, or an end without newline"
+-- for a line that isn't one of the three, and for a last line without newline
 abbrev pub FORM : ℕ
 FORM = 19
 
@@ -30,7 +30,7 @@ mostInput = 65536
 
 -- ---- a line
 
--- "a refused `f` leaves the earlier store"
+-- where `f` is refused, the store is the one of before
 abbrev pub unlessWent : List ℕ → Reply (List ℕ) → Reply (List ℕ)
 unlessWent a r = record { number = r .number; value = r .value; after = cond (eqb (r .number) WENT) (r .after) a }
 
@@ -61,7 +61,7 @@ answers a end = []
 answers a torn = printed FORM 0
 answers a (line l ls) = said (heard a (command l)) (λ a′. answers a′ ls)
 
--- "longer input prints `20 0` only. Empty input prints nothing."
+-- for an input that is too long, `20 0` and nothing else; for an empty one, which has no lines, nothing
 unfoldable pub output : List ℕ → List ℕ
 output input = cond (leb (length input) mostInput) (answers [] (lines input)) (printed LONG 0)
 

@@ -1,4 +1,4 @@
--- 01, "The script program": "For each line it prints number, blank, value, newline."
+-- 01, "The script program": the line that is printed for each line of the input
 use mathlib.Core.Bool.{cond}
 use mathlib.Core.Path.{_≡_}
 use mathlib.Core.List.{List, [], _∷_, _++_}

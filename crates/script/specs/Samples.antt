@@ -30,7 +30,7 @@ pub record Sample : Type 0 where
   pub input : String
   pub prints : String
 
--- 01, "The script program": each line, and at its right what is printed
+-- the example of 01, "The script program": each line, and beside it what it prints
 abbrev example : List Sample
 example =
     (record { input = "f 2 1 2 1\n"; prints = "0 0\n" }) ∷
@@ -79,7 +79,7 @@ others =
     (record { input = "s 0\ns 0"; prints = "10 0\n19 0\n" }) ∷
     -- nothing is printed after a line of another form
     (record { input = "s\ns 0\n"; prints = "19 0\n" }) ∷
-    -- a refused `f` leaves the earlier store
+    -- `f` is refused, and the store is the one of before
     (record { input = "f 2 1 2 1\nf 17 1 2 1\ns 0\n"; prints = "0 0\n17 0\n13 0\n" }) ∷
     -- the largest sizes
     (record { input = "f 4294967295 4294967295 4294967295 4294967295\n"; prints = "17 0\n" }) ∷
@@ -89,7 +89,7 @@ pub others-print : map (λ s. output (bytesOf (s .input))) others ≡ map (λ s.
 unfolding wellFormed figures output
 others-print = refl
 
--- "Before the first accepted `f`, `b` and `s` give SHAPE": there is no store, and there is none after them
+-- as long as no `f` was accepted, `b` and `s` answer SHAPE: there is no store, and there is none after them
 pub no-store : (e : Entry) → callArea [] e ≡ record { number = SHAPE; value = 0; after = [] }
 unfolding wellFormed
 no-store e = refl

@@ -53,12 +53,12 @@ abbrev pub bounded : Read → Read
 bounded missing = missing
 bounded (got v rest) = cond (leb v mostWord) (got v rest) missing
 
--- "No leading zeros but 0 itself": a number that starts with 0 is 0 and ends there
+-- a number that starts with 0 is 0 and ends there
 abbrev pub number : List ℕ → Read
 number [] = missing
 number (c ∷ cs) = cond (eqb c ZERO) (got 0 cs) (cond (isDigit c) (bounded (digits (c - ZERO) cs)) missing)
 
--- "decimal fields parted by one blank": the blank, and the number after it
+-- a field: one blank, and the decimal number after it
 abbrev pub field : List ℕ → Read
 field [] = missing
 field (c ∷ cs) = cond (eqb c BLANK) (number cs) missing
@@ -96,7 +96,7 @@ asBegin (All t op n c) = Begin t op n c
 abbrev pub asStep : Read → Command
 asStep field = onField field Bad (λ t cs. ending cs Bad (Step t))
 
--- "`f T N P D` formats a new store, `b t op n c` begins, `s t` steps.": a line's first byte and the others
+-- `f` with four numbers, `b` with four, `s` with one: a line's first byte and the others
 abbrev pub lettered : ℕ → List ℕ → Command
 lettered c cs =
     cond (eqb c LETTER-F) (asFormat (four cs))
@@ -115,7 +115,7 @@ pub data Lines : Type 0 where
   torn : Lines
   line : List ℕ → Lines → Lines
 
--- "Each line ends in a newline": the lines of an input of which c is the first byte, and whether that is a newline
+-- a newline ends each line: the lines of an input of which c is the first byte, and whether that is a newline
 abbrev pub onto : Bool → ℕ → Lines → Lines
 onto true c ls = line [] ls
 onto false c end = torn

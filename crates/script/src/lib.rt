@@ -46,7 +46,7 @@ const MOST_PRINTED: usize = 22;
 // Room for any output: six bytes for each byte of input, since a line that is answered has four, and one line more.
 pub const ROOM: usize = 6 * MOST_INPUT + MOST_PRINTED;
 
-// Number and value come back together as number times this plus value.
+// A call's result is its number times this, and its value added.
 const PACK: u64 = 4294967296;
 
 // What stands at a place of a line: no number, or a number, and the place after it.

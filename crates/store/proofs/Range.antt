@@ -1,5 +1,5 @@
--- A store in range: sizes in limits, each word in its bounds and below 2^32, and 0 past the sizes. It is what a well-formed area of
--- bytes holds, and its area is a well-formed one of bytes that holds it. Assumes nothing.
+-- A store in range: it keeps to the limits, each word is in its bounds and below 2^32, and past the sizes all is 0. It is what an area holds that
+-- is well formed and of bytes, and its area is such a one and holds it. Assumes nothing.
 use mathlib.Core.Path.{_≡_, refl, sym, _∙_, ap, subst}
 use mathlib.Core.Bool.{true}
 use mathlib.Core.List.{List, [], _∷_, _++_}
@@ -64,7 +64,7 @@ ranged-fresh t n p d l =
       own = λ k. omega arith;
     }
 
--- ---- a well-formed area of bytes holds a store in range
+-- ---- what a well-formed area holds, if it is of bytes, is in range
 
 -- a table of an area, of entries that are at most a bound
 column-cell : (at : ℕ → ℕ) (from stride size bound : ℕ) → ((k : ℕ) → k < size → column at from stride size k ≤ bound) →

@@ -178,7 +178,7 @@ pub record Sound (s : Store) : Type 0 where
   pub header : (m : ℕ) → m < s .blocks → s .header m ≤ s .numbers
   pub own : (m : ℕ) → m < s .blocks → s .own m ≤ s .threads
 
--- every entry of a table is at most a bound
+-- no entry of a table is over a bound
 table-bound : (f : ℕ → ℕ) (size bound : ℕ) → every size (λ k. leb (f k) bound) ≡ true → (k : ℕ) → k < size → f k ≤ bound
 table-bound f size bound e k h = leb-true (f k) bound (every-at size (λ j. leb (f j) bound) e k h)
 

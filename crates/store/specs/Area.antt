@@ -12,7 +12,7 @@ use Rattle.meaning.specs.Store.{Store, idle}
 use Rattle.meaning.specs.Programs.{LEVEL, lastLine}
 use Rattle.store.specs.Layout.{tAt, nAt, pAt, dAt, lockAt, ownerAt, threadsAt, threadWords, mapAt, locksAt, blocksAt, blockWords, size}
 
--- ---- "The area is 32-bit little-endian words"
+-- ---- words of 32 bits, the low byte first
 
 -- every element is a byte
 abbrev pub Bytes : List ℕ → Type 0
@@ -94,12 +94,12 @@ decode a = storeOf (word a) (word a tAt) (word a nAt) (word a pAt)
 
 -- ---- well formed
 
--- "an idle record (operation 0) is seven zeros"
+-- an idle record: all seven words are 0
 abbrev pub zeros : Thread → Bool
 zeros r =
     eqb (r .op) 0 && eqb (r .line) 0 && eqb (r .n) 0 && eqb (r .c) 0 && eqb (r .p) 0 && eqb (r .q) 0 && eqb (r .h) 0
 
--- "headers and h at most N, operation 0 to 4, n below N, p and q below P, line from 1 to the operation's last"; N and P are given
+-- a record with open work: one of the four operations at a line that it has, h at most N, n below N, q and p below P; N and P are given
 abbrev pub working : ℕ → ℕ → Thread → Bool
 working n p r =
     leb (r .op) LEVEL && within 1 (lastLine (r .op)) (r .line) && ltb (r .n) n && ltb (r .p) p && ltb (r .q) p && leb (r .h) n
@@ -107,7 +107,7 @@ working n p r =
 abbrev pub soundThread : ℕ → ℕ → Thread → Bool
 soundThread n p r = cond (eqb (r .op) 0) (zeros r) (working n p r)
 
--- "locks and owners at most T, map at most P, headers [..] at most N". "Content, c and wear may be any word."
+-- no lock or owner over T, no map entry over P, no header over N; of contents, register c and wear nothing is asked
 abbrev pub inBounds : Store → Bool
 inBounds s =
     leb (s .lock) (s .threads)
@@ -118,7 +118,7 @@ inBounds s =
     && every (s .blocks) (λ m. leb (s .header m) (s .numbers))
     && every (s .blocks) (λ m. leb (s .own m) (s .threads))
 
--- "the four sizes in limits", and every word in its bounds
+-- sizes that keep to their limits, and every word in its bounds
 abbrev pub sound : Store → Bool
 sound s = inLimits (s .threads) (s .numbers) (s .blocks) (s .distance) && inBounds s
 

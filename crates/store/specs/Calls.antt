@@ -1,6 +1,6 @@
 -- The calls on byte areas: what the exported functions' contracts say, and what the demands speak of.
--- 01, "Numbers given back": "Order: format LIMITS, SHAPE; begin SHAPE, THREAD, BUSY, OPERATION, LOGICAL; step SHAPE, THREAD, IDLE,
--- then the line's own." What follows SHAPE is `beginning` and `stepping` of the crate meaning.
+-- They refuse in the order of 01, "Numbers given back": here is LIMITS before SHAPE for format, and SHAPE before all else for begin and step, whose
+-- other numbers are in `beginning` and `stepping` of the crate meaning.
 use mathlib.Core.List.{List}
 use mathlib.Core.Path.{_≡_}
 use Prim.Native.Nat.{ℕ}
@@ -34,6 +34,6 @@ stepArea a t = callArea a (step t)
 pub data Formatted : List ℕ → Type 0 where
   format : (a : List ℕ) → Bytes a → (t n p d : ℕ) → formatArea a t n p d .number ≡ WENT → Formatted (formatArea a t n p d .after)
 
--- "A store grown from fresh is one that a schedule left, starting from a format that gave WENT."
+-- 01, "grown from fresh": what schedules leave, the first store being one that format answered with WENT
 abbrev pub Grown : List ℕ → Type 0
 Grown = schedule.Grown callArea Formatted

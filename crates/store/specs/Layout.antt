@@ -2,7 +2,7 @@
 use Prim.Native.Nat.{ℕ, _+_, _*_}
 use Rattle.meaning.specs.Limits.{mostThreads, mostNumbers, mostBlocks}
 
--- "T, N, P, D, header lock, headers' owner."
+-- the four sizes, H and the headers' owner
 abbrev pub tAt : ℕ
 tAt = 0
 
@@ -21,21 +21,21 @@ lockAt = 4
 abbrev pub ownerAt : ℕ
 ownerAt = 5
 
--- "T thread records of 7: operation, line, n, c, p, q, h."
+-- a record for each thread: operation and line, then registers n, c, p, q, h
 abbrev pub threadsAt : ℕ
 threadsAt = 6
 
 abbrev pub threadWords : ℕ
 threadWords = 7
 
--- "Map: N words". "Block locks: N words."
+-- the map, then the block locks, a word for each number
 abbrev pub mapAt : ℕ → ℕ
 mapAt t = threadsAt + threadWords * t
 
 abbrev pub locksAt : ℕ → ℕ → ℕ
 locksAt t n = mapAt t + n
 
--- "P block records of 4: header, content, wear, owner."
+-- a record for each block: header, content, wear and owner
 abbrev pub blocksAt : ℕ → ℕ → ℕ
 blocksAt t n = locksAt t n + n
 
@@ -45,7 +45,7 @@ blockWords = 4
 abbrev pub areaWords : ℕ → ℕ → ℕ → ℕ
 areaWords t n p = blocksAt t n + blockWords * p
 
--- "Length in bytes is 4(6 + 7T + 2N + 4P)"
+-- in bytes: 4(6 + 7T + 2N + 4P)
 abbrev pub size : ℕ → ℕ → ℕ → ℕ
 size t n p = 4 * areaWords t n p
 

@@ -121,7 +121,7 @@ view w =
       own = table (w .own);
     }
 
--- "filled with zeros at full size, 512 blocks and 256 map entries"
+-- before an area is read in: all zeros, with room for 512 blocks and 256 numbers
 abbrev pub zeroFilled : WorkingStore
 zeroFilled =
     record {

@@ -15,8 +15,8 @@ use meaning::Word;
 
 // ---- the working store and the limits
 
-// The store inside the program: 16 thread records, 256 map entries and locks, and 512 headers, contents, wear and owners of blocks. It is
-// filled with zeros at full size before an area is read in.
+// The store inside the program: 16 thread records, 256 map entries and locks, and 512 headers, contents, wear and owners of blocks. All of it
+// is zeros before an area is read in.
 pub struct Store {
     pub t: u32,
     pub n: u32,

@@ -1,4 +1,4 @@
--- `machine::least_worn` meets its contract. The loop's invariant: what was found is the mapped block with least wear of the blocks passed.
+-- `machine::least_worn` meets its contract. The loop's invariant: what was found is the least worn mapped one of the blocks passed.
 -- Assumes nothing.
 use mathlib.Core.Path.{_≡_}
 use mathlib.Core.Logic.{⊎-elim}

@@ -1,4 +1,4 @@
--- `machine::to_block` meets its contract. The loop's invariant: what was found is the free block with most wear of the blocks passed.
+-- `machine::to_block` meets its contract. The loop's invariant: what was found is the most worn free one of the blocks passed.
 -- Assumes nothing.
 use mathlib.Core.Path.{_≡_}
 use mathlib.Core.Logic.{⊎-elim}

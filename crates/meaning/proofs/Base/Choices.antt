@@ -1,5 +1,5 @@
--- What the searches of specs/Choosing find is what 01 asks for, as specs/Chosen says it: the lowest free block, the free block with most
--- wear, the mapped block with least, the lowest of those that tie; and nobody exactly where there is none.
+-- What the searches of specs/Choosing find is what 01 asks for, as specs/Chosen says it: the lowest free block, the most worn free
+-- block, the least worn mapped one, the lowest of those that tie; and nobody exactly where there is none.
 -- Assumes nothing.
 use mathlib.Core.Path.{_≡_, refl, sym, ap}
 use mathlib.Core.Bool.{Bool, true, false, not}

@@ -196,7 +196,7 @@ future-alone s k alone =
     let writes : eqb (r .op) WRITE ≡ false = rw (eqb-true (r .op) READ reads) in
     rw (x, writes, reads)))
 
--- what is owed to a thread with its place is owed by the manager, but for a levelling's answer
+-- the answer that is owed to a thread with its place is owed by the manager, but for a levelling's answer
 pub owing-owed : (s : Store) → Inv s → (u : ℕ) → (l : List Answered) × Owed s u l × (owing s u ≡ ofManager l)
 owing-owed s I u =
     let r = s .thread u in

@@ -4,7 +4,7 @@
 -- history H′ that this gives, (L1) complete(H′), which is H′ without the invocations that have no response, is equivalent to some legal
 -- sequential history S, and (L2) the order <H of operations in H is kept in S.
 -- Here H is a schedule w on a fresh store with what its calls answer: a begin that went is an invocation, a step that finished is a
--- response. Its reads, writes and unmaps are the invocations; levellings, which the manager does not know, are left out. Then:
+-- response. The invocations are those of reads, writes and unmaps; levellings, which the manager does not know, are left out. Then:
 --  * the responses that are appended are what is `Owed`: one at most for each thread, to an operation that has taken its last lock;
 --  * the invocations that complete(H′) leaves out are `pending`: one at most for each thread;
 --  * S is `order`: the operations in the order of their last locks, one after the other, each with the manager's answer (`managed`).

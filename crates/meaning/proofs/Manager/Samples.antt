@@ -21,7 +21,7 @@ abbrev overtaken : ℕ → List Entry
 overtaken lines =
     begin 0 WRITE 0 7 ∷ steps (lastLine WRITE) 0 (begin 0 UNMAP 0 0 ∷ steps lines 0 (begin 1 READ 0 0 ∷ steps 3 1 []))
 
--- U10 done, U11 not: the read finishes with empty while the unmap is open, and the unmap's answer is still owed
+-- U10 done, U11 not: the read finishes with empty, and the unmap's answer is still owed
 pub read-after-U10 : finishedBy callStore (λ s. s) (fresh 2 1 2 1) 1 (overtaken 10) ≡ record { op = READ; value = 0 } ∷ []
 read-after-U10 = refl
 

@@ -1,5 +1,5 @@
 -- What a store says of the atomic manager of specs/Manager, whatever threads are at work in it: what will become of each number (is it
--- mapped, and what does it hold), `future`, and which answer is owed to a thread that has taken its last lock, `owing`. A writer, reader or
+-- mapped, and what does it hold), `future`, and which answer a thread that has taken its last lock has still to get, `owing`. A writer, reader or
 -- unmapper takes its last lock, n's, at W2, R1 and U2, and holds it while it works on n: so what will become of n is what that thread's
 -- operation leaves there, and nobody else changes it. Where n's lock is free it is what the map and n's block say.
 -- Definitions only. Assumes nothing.

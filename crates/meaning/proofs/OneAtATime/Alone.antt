@@ -1,5 +1,5 @@
 -- A thread alone: the store in which nobody but t is at work, `alone t s`. A step of t does there what it does in s; so a thread that has
--- its place in the order comes there to what it comes to in s, and within as many steps as the longest program has lines.
+-- its place comes there to what it comes to in s, and within as many steps as the longest program has lines.
 -- Assumes nothing.
 use mathlib.Core.Path.{_≡_, refl, sym, ap, _∙_, subst, fun-ext}
 use mathlib.Core.Bool.{Bool, true, false, cond}

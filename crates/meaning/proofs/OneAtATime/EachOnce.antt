@@ -1,4 +1,4 @@
--- Each once, over stores: for each thread, its operations in the order of last locks, and then the one that it has begun and that has no
+-- Each once, over stores: a thread's operations in the order of last locks, and then the one that it has begun and that has no
 -- place yet, are those that it has begun, in the order in which it began them; and of those in the order all are finished, but for an open one that
 -- has its place (`each-once`). So each begun operation stands in the order at most once, and each finished one
 -- exactly once.

@@ -1,4 +1,4 @@
--- A step that takes its operation's last lock turns what the store comes to into what the whole operation, run alone from there, leaves;
+-- A step that takes its operation's last lock turns what the store comes to into what its operation, run whole and alone from there, leaves;
 -- and the operation answers what it answers there.
 -- Assumes nothing.
 use mathlib.Core.Path.{_≡_, ap, _∙_, subst}

@@ -1,4 +1,4 @@
--- Which open operation has its place in the order of last locks, `placed`, and what a step does to that: a step that takes a last lock
+-- Which open operation has its place, `placed`, and what a step does to that: a step that takes a last lock
 -- gives its own thread a place, a step that ends takes it away, and no other step gives or takes one, of its own thread or another.
 -- What a line does to its thread's record and to the tables is said by the shape of its act (Acts); the rest is tests at every line.
 -- Assumes nothing.

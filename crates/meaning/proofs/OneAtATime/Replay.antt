@@ -1,7 +1,7 @@
 -- The lines before an operation's last lock, run again by a thread alone: from the cleared store, begin and the steps up to the last lock
 -- lead to where the thread stood when it was about to take it. What those lines read can't have changed since: levelling chose under H,
--- and no register but those that it set is set. So where nobody has a place, a step that takes the last lock leads to what the whole
--- operation, run alone, leads to.
+-- and no register but those that it set is set. So where nobody has a place, the step by which an operation takes its last lock leads to what the
+-- operation, run whole and alone, leads to.
 -- Assumes nothing.
 use mathlib.Core.Path.{_≡_, refl, sym, ap, _∙_}
 use mathlib.Core.Bool.{true, false, cond, _&&_, _||_}

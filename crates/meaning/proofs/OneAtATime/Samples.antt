@@ -78,7 +78,7 @@ levellerAndWriter-order : order callStore (λ s. s) two levellerAndWriter ≡
     unmapped ++ operation 1 WRITE 2 5 ∷ operation 0 LEVEL 0 0 ∷ []
 levellerAndWriter-order = refl
 
--- number 1 is now on block 0 and number 2 has its new content; block 1 is free, keeps its content and is worn
+-- number 1 was moved to block 0 and number 2 has its new content; block 1 is free, keeps its content and is worn
 abbrev twoLeft : List ℕ × List (List ℕ)
 twoLeft = (
   0 ∷ 0 ∷ 0 ∷ 0 ∷ 0 ∷ 1 ∷ 3 ∷ 0 ∷ 0 ∷ 0 ∷ 2 ∷ 0 ∷ 3 ∷ 0 ∷ 9 ∷ 9 ∷ 5 ∷ 0 ∷ 1 ∷ 1 ∷ 0 ∷ 0 ∷ 0 ∷ 0 ∷ 0 ∷ 0 ∷ [],

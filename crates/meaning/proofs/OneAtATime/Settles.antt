@@ -1,5 +1,5 @@
--- What a store comes to, `SettlesTo s d a`: d is what s comes to when every thread that has its place in the order goes on to its end and
--- the others let go, and a is what each thread's operation answers on the way. It doesn't matter in which order they go on: if a thread
+-- What a store comes to, `SettlesTo s d a`: all threads of s that have their place go on to their ends, the others let go, and what
+-- that leaves is d; a is what each thread's operation answers on the way. It doesn't matter in which order they go on: if a thread
 -- moves first, the store that is left settles as before, by one induction over SettlesTo, `moved-settles`, with either order at each step.
 -- Assumes nothing.
 use mathlib.Core.Path.{_≡_, refl, sym, ap, _∙_, subst}

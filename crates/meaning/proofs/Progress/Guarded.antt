@@ -1,5 +1,5 @@
--- Over stores: headers and map agree exactly where no thread stands between W7 and W10, U6 and U7 or L10 and L13, so where nobody owns the
--- headers; and whoever changes a wear holds H before and after.
+-- Over stores: headers and map agree exactly where no thread stands between W7 and W10, between U6 and U7 or between L10 and L13, so where
+-- nobody owns the headers; and whoever changes a wear holds H before and after.
 -- Assumes nothing.
 use mathlib.Core.Path.{_≡_, refl, sym, _∙_, subst}
 use mathlib.Core.Bool.{true, false, _&&_, _||_}

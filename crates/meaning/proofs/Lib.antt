@@ -7,7 +7,7 @@
 --  * Lines: each of the 51 lines keeps to the invariant.
 --  * Progress: demand 1. Nothing faults, and somebody can step.
 --  * EitherOrder: demand 3, first half.
---  * Manager: demand 2. Each answer is the atomic manager's, and schedules are linearizable.
+--  * Manager: demand 2. Reads, writes and unmaps answer as the atomic manager, and schedules are linearizable.
 --  * OneAtATime: demand 3, second half.
 pub mod Base
 pub mod Invariant

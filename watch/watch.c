@@ -78,7 +78,9 @@ static int written(void)
     if (fflush(stdout) == 0 && !ferror(stdout)) {
         return 1;
     }
-    fprintf(stderr, "watch: standard output: %s\n", strerror(errno));
+    if (errno != EPIPE) { /* where the reader has gone, nobody asks why */
+        fprintf(stderr, "watch: standard output: %s\n", strerror(errno));
+    }
     return 0;
 }
 

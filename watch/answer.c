@@ -30,7 +30,7 @@ static void add_limits(const uint32_t size[4])
     add_limit("D", size[3], KERNELSUN_DISTANCE_LEAST, KERNELSUN_DISTANCE_MOST);
 }
 
-/* A lock that a thread waits for. */
+/* Which lock a thread waits for, and where the one stands that holds it. */
 static void add_wait(const uint8_t *area, uint32_t thread)
 {
     uint32_t lock = kernelsun_next_lock(area, thread);
@@ -116,7 +116,7 @@ static const struct {
                {"R4", FINDS_CONTENT}, {"U3", FINDS_NUMBER},  {"L3", FINDS_FROM_TO},
                {"L4", FINDS_HEADER},  {"L8", FINDS_CONTENT}};
 
-/* A block's number, or what it means that there is none. */
+/* A number behind the words for it, or the words for none. */
 static void add_whether(const char *where, uint32_t number, const char *none)
 {
     if (number == KERNELSUN_NONE) {

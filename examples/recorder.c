@@ -242,16 +242,16 @@ static int erase_slot(track *t, uint32_t slot)
     return erase_block(t->thread, block_of(t, slot));
 }
 
-/* Records into one slot, listens to it, to an older take and to the title. */
+/* Records over the oldest take, and listens to it, to the one that is now oldest, to the title. */
 static int record(track *t, uint32_t take)
 {
-    uint32_t slot = take % SLOTS, older = (take + 1) % SLOTS, oldest = (take + 2) % SLOTS;
+    uint32_t slot = take % SLOTS, oldest = (take + 1) % SLOTS, older = (take + 2) % SLOTS;
     t->kept[slot] = sound(t->thread, take);
     return write_block(t->thread, block_of(t, slot), t->kept[slot]) &&
            holds(t->thread, block_of(t, slot), t->kept[slot]) &&
-           holds(t->thread, block_of(t, older), t->kept[older]) &&
+           holds(t->thread, block_of(t, oldest), t->kept[oldest]) &&
            holds(t->thread, TITLE, old_sound(TITLE)) &&
-           (take % ERASES_EVERY != 0 || erase_slot(t, oldest));
+           (take % ERASES_EVERY != 0 || erase_slot(t, older));
 }
 
 static void *run_track(void *argument)

@@ -42,7 +42,7 @@ void expect_area(area *a, call c, uint32_t number, uint32_t value, const area *a
 void apply(area *a, const edit *changes, size_t count)
 {
     for (size_t i = 0; i < count; i++) {
-        word_put(a->bytes, changes[i].word, changes[i].value);
+        put_word(a->bytes, changes[i].word, changes[i].value);
     }
 }
 
@@ -79,7 +79,8 @@ void fill(area *a, size_t len, uint8_t byte)
 void make_fresh(area *a, uint32_t t, uint32_t n, uint32_t p, uint32_t d)
 {
     fill(a, KERNELSUN_LENGTH(t, n, p), 0);
-    const edit head[] = {{WORD_T, t}, {WORD_N, n}, {WORD_P, p}, {WORD_D, d}};
+    const edit head[] = {
+        {KERNELSUN_AT_T, t}, {KERNELSUN_AT_N, n}, {KERNELSUN_AT_P, p}, {KERNELSUN_AT_D, d}};
     apply(a, head, sizeof head / sizeof head[0]);
 }
 

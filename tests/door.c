@@ -309,26 +309,6 @@ static void check_begun(void)
 
 /* ---- whole operations ---- */
 
-typedef struct {
-    uint32_t steps, value;
-} run;
-
-/* Begins and steps to the end. Any number that isn't WENT or FINISHED fails. */
-static run whole(area *a, uint32_t thread, uint32_t op, uint32_t n, uint32_t c)
-{
-    call start = call_begin(thread, op, n, c), next = call_step(thread);
-    run r = {0, 0};
-    expect_equal("begin", kernelsun_number(through_door(&start, a)), KERNELSUN_WENT);
-    uint64_t given = 0;
-    while (kernelsun_number(given) == KERNELSUN_WENT && r.steps < 2 * LINES_MOST) {
-        given = through_door(&next, a);
-        r.steps++;
-    }
-    expect_equal("number at the end", kernelsun_number(given), KERNELSUN_FINISHED);
-    r.value = kernelsun_value(given);
-    return r;
-}
-
 static void expect_whole(area *a, uint32_t op, uint32_t n, uint32_t c, uint32_t steps,
                          uint32_t value)
 {
@@ -461,22 +441,6 @@ static void check_choices(void)
 }
 
 /* ---- interleavings ---- */
-
-static void expect_steps(area *a, uint32_t thread, uint32_t count, uint32_t number)
-{
-    call c = call_step(thread);
-    for (uint32_t i = 0; i < count; i++) {
-        uint64_t given = through_door(&c, a);
-        expect_equal("number", kernelsun_number(given), number);
-        expect_equal("value", kernelsun_value(given), 0);
-    }
-}
-
-static void expect_begins(area *a, uint32_t thread, uint32_t op, uint32_t n, uint32_t c)
-{
-    call start = call_begin(thread, op, n, c);
-    expect_equal("begin", kernelsun_number(through_door(&start, a)), KERNELSUN_WENT);
-}
 
 static void check_second_reader_waits(void)
 {

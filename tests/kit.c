@@ -13,9 +13,6 @@
 
 enum { PAGE = 4096, ROOM_PAGES = 4, ROOM = PAGE * ROOM_PAGES, GUARD_BYTES = 64, GUARD = 0xa5 };
 
-/* Up against the upper page, the lower page, and three odd addresses. */
-enum { PLACE_UPPER, PLACE_LOWER, PLACE_ODD, PLACES = PLACE_ODD + 3 };
-
 call call_format(uint32_t t, uint32_t n, uint32_t p, uint32_t d)
 {
     call c = {CALL_FORMAT, {t, n, p, d}};
@@ -46,10 +43,17 @@ static uint8_t *make_room(void)
     return pages + PAGE;
 }
 
-static uint8_t *place_in(uint8_t *room, size_t len)
+static uint8_t *the_room(void)
 {
-    static unsigned turn;
-    unsigned place = turn++ % PLACES;
+    static uint8_t *room;
+    if (room == NULL) {
+        room = make_room();
+    }
+    return room;
+}
+
+static uint8_t *place_in(uint8_t *room, size_t len, unsigned place)
+{
     if (place == PLACE_UPPER) {
         return room + ROOM - len;
     }
@@ -90,11 +94,8 @@ static uint64_t make_call(const call *c, uint8_t *at, size_t len)
 
 uint64_t through_door(const call *c, area *a)
 {
-    static uint8_t *room;
-    if (room == NULL) {
-        room = make_room();
-    }
-    uint8_t *at = place_in(room, a->len);
+    static unsigned turn;
+    uint8_t *room = the_room(), *at = place_in(room, a->len, turn++ % PLACES);
     size_t before = guards(room, at), after = guards(at + a->len, room + ROOM);
     memset(at - before, GUARD, before);
     memset(at + a->len, GUARD, after);
@@ -104,6 +105,13 @@ uint64_t through_door(const call *c, area *a)
     check_guards(at - before, before, c, "before");
     check_guards(at + a->len, after, c, "after");
     return r;
+}
+
+const uint8_t *placed(const area *a, unsigned place)
+{
+    uint8_t *at = place_in(the_room(), a->len, place);
+    memcpy(at, a->bytes, a->len);
+    return at;
 }
 
 /* ---- Printing ---- */

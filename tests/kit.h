@@ -34,13 +34,18 @@ call call_format(uint32_t t, uint32_t n, uint32_t p, uint32_t d);
 call call_begin(uint32_t thread, uint32_t op, uint32_t n, uint32_t c);
 call call_step(uint32_t thread);
 
+/* Up against a page that cannot be touched at its end or its start, and three odd addresses. */
+enum { PLACE_UPPER, PLACE_LOWER, PLACE_ODD, PLACES = PLACE_ODD + 3 };
+
 /*
  * Makes the call through the door. The area is put at a place that changes from
- * call to call: up against a page that cannot be touched at its end or its
- * start, or at an odd address. Bytes around it are checked afterwards; a
- * changed one ends the test program.
+ * call to call. Bytes around it are checked afterwards; a changed one ends the
+ * test program.
  */
 uint64_t through_door(const call *c, area *a);
+
+/* The area's bytes at that place, to be read until the next call through the door or to here. */
+const uint8_t *placed(const area *a, unsigned place);
 
 /* "step(thread 1)" and so on, and "FINISHED with 7", without a newline. */
 void print_call(const call *c);

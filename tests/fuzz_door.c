@@ -1,6 +1,7 @@
 /*
  * Compares the door with the reference, call by call: number, value and every
- * byte of the area. Areas come from five sources: grown from fresh under random
+ * byte of the area; and what kernelsun_view.h says of the area with whether a
+ * step was blocked. Areas come from five sources: grown from fresh under random
  * schedules; well formed but made at random, with locks, owners, lines and
  * registers in all combinations; damaged in one word; of odd lengths; and any
  * of these with hostile arguments.
@@ -80,6 +81,24 @@ static void fail(const char *why, const call *c, uint64_t door, uint64_t referen
     exit(1);
 }
 
+/* Whether the lock that a thread's next line takes, by the view, is held. */
+static int seen_held(const area *a, uint32_t thread)
+{
+    uint32_t lock = kernelsun_next_lock(a->bytes, thread);
+    return kernelsun_lock_holder(a->bytes, lock) != KERNELSUN_NONE;
+}
+
+/* What the view says of the area before a begin or a step agrees with what the call gave. */
+static int view_agrees(const call *c, uint32_t number, const area *before)
+{
+    if (c->which == CALL_FORMAT || number == KERNELSUN_SHAPE) {
+        return 1;
+    }
+    return kernelsun_viewable(before->bytes, before->len) &&
+           (c->which == CALL_BEGIN ||
+            seen_held(before, c->argument[0]) == (number == KERNELSUN_BLOCKED));
+}
+
 /* Makes the call on both, compares, and leaves the area after it in `now`. */
 static uint64_t compare(call c)
 {
@@ -91,6 +110,9 @@ static uint64_t compare(call c)
     calls_made++;
     if (door != reference || memcmp(now.bytes, reference_after.bytes, now.len) != 0) {
         fail("door and reference differ", &c, door, reference, &before, &now, &reference_after);
+    }
+    if (!view_agrees(&c, kernelsun_number(door), &before)) {
+        fail("the view says otherwise", &c, door, reference, &before, &now, &reference_after);
     }
     coverage_count(&c, door, &before, &now);
     return door;

@@ -25,6 +25,6 @@ int main()
         printf("FAILED: the view doesn't work from C++\n");
         return 1;
     }
-    printf("header: both strict C99 and C++, link from both; no result is dropped unseen\n");
+    printf("header: both are strict C99 and C++ and link; a dropped result is refused\n");
     return 0;
 }

@@ -62,13 +62,14 @@ static int thread_record_well_formed(const uint8_t *area, const kernelsun_sizes 
 
 static int logical_block_well_formed(const uint8_t *area, const kernelsun_sizes *s, uint32_t n)
 {
-    return kernelsun_of_map(area, n) <= s->p && kernelsun_of_lock(area, n) <= s->t;
+    return kernelsun_word(area, kernelsun_at_map(s, n)) <= s->p &&
+           kernelsun_word(area, kernelsun_at_lock(s, n)) <= s->t;
 }
 
 static int physical_block_well_formed(const uint8_t *area, const kernelsun_sizes *s, uint32_t p)
 {
-    return kernelsun_of_block(area, p, KERNELSUN_BLOCK_HEADER) <= s->n &&
-           kernelsun_of_block(area, p, KERNELSUN_BLOCK_OWNER) <= s->t;
+    return kernelsun_word(area, kernelsun_at_block(s, p, KERNELSUN_BLOCK_HEADER)) <= s->n &&
+           kernelsun_word(area, kernelsun_at_block(s, p, KERNELSUN_BLOCK_OWNER)) <= s->t;
 }
 
 static int records_well_formed(const uint8_t *area, const kernelsun_sizes *s)

@@ -168,8 +168,9 @@ static void check_named(void)
 {
     about("a word that is a number plus one");
     expect_equal("0", kernelsun_named(0), NONE);
-    expect_equal("1", kernelsun_named(1), 0);
-    expect_equal("512", kernelsun_named(512), 511);
+    for (uint32_t number = 0; number < KERNELSUN_PHYSICAL_MOST; number++) {
+        expect_equal("number", kernelsun_named(number + 1), number);
+    }
 }
 
 /* ---- Words of a thread, of a logical block, of a physical block ---- */

@@ -18,10 +18,10 @@
 #include <time.h>
 
 #include "filled.h"
-#include "kernelsun.h"
-#include "layout.h"
+#include "kernelsun_view.h"
 #include "mix.h"
 #include "plain.h"
+#include "put_word.h"
 
 /* Odd, so that there is a median. */
 enum { RUNS = 201 };
@@ -61,7 +61,7 @@ typedef struct work work;
 struct work {
     const char *name;
     tally (*run)(const work *w, step_call *call, uint8_t *area);
-    sizes s;
+    kernelsun_sizes s;
     size_t len;
     uint8_t start[KERNELSUN_LENGTH_MOST]; /* what each run starts from */
     operation mix[OPERATIONS_A_RUN];
@@ -69,10 +69,10 @@ struct work {
 
 static void open_operation(uint8_t *area, uint32_t thread, const operation *o)
 {
-    word_put(area, thread_word(thread, THREAD_OP), o->op);
-    word_put(area, thread_word(thread, THREAD_LINE), 1);
-    word_put(area, thread_word(thread, THREAD_N), o->n);
-    word_put(area, thread_word(thread, THREAD_C), o->c);
+    put_word(area, kernelsun_at_thread(thread, KERNELSUN_THREAD_OPERATION), o->op);
+    put_word(area, kernelsun_at_thread(thread, KERNELSUN_THREAD_LINE), 1);
+    put_word(area, kernelsun_at_thread(thread, KERNELSUN_THREAD_N), o->n);
+    put_word(area, kernelsun_at_thread(thread, KERNELSUN_THREAD_C), o->c);
 }
 
 static tally run_mix(const work *w, step_call *call, uint8_t *area)
@@ -105,7 +105,7 @@ static tally run_choosing(const work *w, step_call *call, uint8_t *area)
 {
     tally done = {CALLS_A_RUN, 0};
     for (size_t k = 0; k < CALLS_A_RUN; k++) {
-        word_put(area, thread_word(0, THREAD_LINE), LINE_OF_CHOOSING);
+        put_word(area, kernelsun_at_thread(0, KERNELSUN_THREAD_LINE), LINE_OF_CHOOSING);
         done.sum += call(area, w->len, 0);
     }
     return done;
@@ -129,8 +129,9 @@ static void make_mix(work *w, const mix_area *a)
     w->name = a->name;
     w->run = run_mix;
     w->s = a->s;
-    w->len = area_length(&a->s);
-    plain_format(w->start, w->len, a->s.t, a->s.n, a->s.p, a->s.d);
+    w->len = KERNELSUN_LENGTH(a->s.t, a->s.n, a->s.p);
+    uint64_t r = plain_format(w->start, w->len, a->s.t, a->s.n, a->s.p, a->s.d);
+    stop_unless(kernelsun_number(r) == KERNELSUN_WENT, "an area isn't formatted");
     for (size_t k = 0; k < (size_t)ROUNDS_OF_GROWTH * a->s.n; k++) {
         operation o = mix_next(&dice, &a->s);
         do_whole(w->start, w->len, mix_thread(&a->s, k), &o);
@@ -152,10 +153,12 @@ static void make_choosing(work *w, const mix_area *a)
     make_mix(w, a);
     w->name = "largest, choosing (L3)";
     w->run = run_choosing;
-    plain_begin(w->start, w->len, 0, KERNELSUN_LEVEL, 0, 0);
-    for (uint32_t line = 1; line < LINE_OF_CHOOSING; line++) {
-        plain_step(w->start, w->len, 0);
+    uint64_t r = plain_begin(w->start, w->len, 0, KERNELSUN_LEVEL, 0, 0);
+    while (kernelsun_number(r) == KERNELSUN_WENT &&
+           kernelsun_line(w->start, 0) < LINE_OF_CHOOSING) {
+        r = plain_step(w->start, w->len, 0);
     }
+    stop_unless(kernelsun_number(r) == KERNELSUN_WENT, "a levelling doesn't come as far as L3");
 }
 
 /* ---- The same numbers, values and bytes, call by call ---- */
@@ -206,7 +209,8 @@ static void compare_mix(const work *w)
             r = step_in_each(w, thread);
         } while (kernelsun_number(r) == KERNELSUN_WENT);
         stop_unless(kernelsun_number(r) == KERNELSUN_FINISHED, "an operation doesn't finish");
-        step_in_each(w, thread);
+        r = step_in_each(w, thread);
+        stop_unless(kernelsun_number(r) == KERNELSUN_IDLE, "an idle thread isn't refused");
     }
 }
 

@@ -10,9 +10,9 @@
 
 #include <string.h>
 
-#include "kernelsun.h"
-#include "layout.h"
+#include "kernelsun_view.h"
 #include "plain.h"
+#include "put_word.h"
 
 /* The words are copied as they stand in the area, which suits only this order of bytes. */
 #if __BYTE_ORDER__ != __ORDER_LITTLE_ENDIAN__
@@ -22,10 +22,11 @@
 /* Document 01's store at full size: 2,674 words. */
 typedef struct {
     uint32_t header_lock, headers_owner;
-    uint32_t records[THREAD_WORDS * KERNELSUN_THREADS_MOST];
+    uint32_t records[KERNELSUN_THREAD_WORDS * KERNELSUN_THREADS_MOST];
     uint32_t map[KERNELSUN_LOGICAL_MOST];
     uint32_t locks[KERNELSUN_LOGICAL_MOST];
-    uint32_t blocks[BLOCK_WORDS][KERNELSUN_PHYSICAL_MOST]; /* headers, contents, wear, owners */
+    /* Headers, contents, wear, owners. */
+    uint32_t blocks[KERNELSUN_BLOCK_WORDS][KERNELSUN_PHYSICAL_MOST];
 } store;
 
 /* ---- Where words stand: in the store, and at the same time in the area ---- */
@@ -43,13 +44,13 @@ static inline uint32_t get(place word)
 static inline void put(place word, uint32_t value)
 {
     *word.held = value;
-    word_put(word.bytes, 0, value);
+    put_word(word.bytes, 0, value);
 }
 
 typedef struct {
     store *held;
     uint8_t *area;
-    sizes s;
+    kernelsun_sizes s;
     uint32_t thread, mine, next;
 } machine;
 
@@ -60,33 +61,33 @@ static inline place both(const machine *m, uint32_t *held, size_t word)
 
 static inline place reg_place(const machine *m, size_t field)
 {
-    return both(m, &m->held->records[(size_t)THREAD_WORDS * m->thread + field],
-                thread_word(m->thread, field));
+    return both(m, &m->held->records[(size_t)KERNELSUN_THREAD_WORDS * m->thread + field],
+                kernelsun_at_thread(m->thread, field));
 }
 
 static inline place header_lock(const machine *m)
 {
-    return both(m, &m->held->header_lock, WORD_HEADER_LOCK);
+    return both(m, &m->held->header_lock, KERNELSUN_AT_LOCK);
 }
 
 static inline place headers_owner(const machine *m)
 {
-    return both(m, &m->held->headers_owner, WORD_HEADERS_OWNER);
+    return both(m, &m->held->headers_owner, KERNELSUN_AT_OWNER);
 }
 
 static inline place map_place(const machine *m, uint32_t n)
 {
-    return both(m, &m->held->map[n], map_word(&m->s, n));
+    return both(m, &m->held->map[n], kernelsun_at_map(&m->s, n));
 }
 
 static inline place lock_place(const machine *m, uint32_t n)
 {
-    return both(m, &m->held->locks[n], lock_word(&m->s, n));
+    return both(m, &m->held->locks[n], kernelsun_at_lock(&m->s, n));
 }
 
 static inline place block_place(const machine *m, uint32_t p, size_t field)
 {
-    return both(m, &m->held->blocks[field][p], block_word(&m->s, p, field));
+    return both(m, &m->held->blocks[field][p], kernelsun_at_block(&m->s, p, field));
 }
 
 #include "lines.h"
@@ -99,23 +100,24 @@ static inline void load_words(uint32_t *to, const uint8_t *area, size_t from, si
 }
 
 /* An array after the other; a loop over the records was slower on the largest area. */
-static inline void load_blocks(store *to, const uint8_t *area, const sizes *s)
+static inline void load_blocks(store *to, const uint8_t *area, const kernelsun_sizes *s)
 {
-    const uint8_t *records = area + BYTES_IN_WORD * block_word(s, 0, 0);
-    for (size_t field = 0; field < BLOCK_WORDS; field++) {
+    const uint8_t *records = area + BYTES_IN_WORD * kernelsun_at_block(s, 0, 0);
+    for (size_t field = 0; field < KERNELSUN_BLOCK_WORDS; field++) {
         for (uint32_t p = 0; p < s->p; p++) {
-            to->blocks[field][p] = word_get(records, (size_t)BLOCK_WORDS * p + field);
+            to->blocks[field][p] =
+                kernelsun_word(records, (size_t)KERNELSUN_BLOCK_WORDS * p + field);
         }
     }
 }
 
-static inline void load(store *to, const uint8_t *area, const sizes *s)
+static inline void load(store *to, const uint8_t *area, const kernelsun_sizes *s)
 {
-    to->header_lock = word_get(area, WORD_HEADER_LOCK);
-    to->headers_owner = word_get(area, WORD_HEADERS_OWNER);
-    load_words(to->records, area, thread_word(0, 0), (size_t)THREAD_WORDS * s->t);
-    load_words(to->map, area, map_word(s, 0), s->n);
-    load_words(to->locks, area, lock_word(s, 0), s->n);
+    to->header_lock = kernelsun_word(area, KERNELSUN_AT_LOCK);
+    to->headers_owner = kernelsun_word(area, KERNELSUN_AT_OWNER);
+    load_words(to->records, area, kernelsun_at_thread(0, 0), (size_t)KERNELSUN_THREAD_WORDS * s->t);
+    load_words(to->map, area, kernelsun_at_map(s, 0), s->n);
+    load_words(to->locks, area, kernelsun_at_lock(s, 0), s->n);
     load_blocks(to, area, s);
 }
 
@@ -127,7 +129,7 @@ uint64_t filled_step(uint8_t *area, size_t len, uint32_t thread)
     }
     store held;
     memset(&held, 0, sizeof held);
-    machine m = {.held = &held, .area = area, .s = sizes_of(area), .thread = thread,
+    machine m = {.held = &held, .area = area, .s = kernelsun_sizes_of(area), .thread = thread,
                  .mine = thread + 1};
     load(&held, area, &m.s);
     return do_line(&m);

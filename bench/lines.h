@@ -18,10 +18,7 @@
 #ifndef KERNELSUN_BENCH_LINES_H
 #define KERNELSUN_BENCH_LINES_H
 
-#include "kernelsun.h"
-#include "layout.h"
-
-#define WORD_MOST 0xffffffffu
+#include "kernelsun_view.h"
 
 static inline uint64_t answer(uint32_t number, uint32_t value)
 {
@@ -75,31 +72,31 @@ static inline uint32_t let_go(const machine *m, place held)
 
 static inline place n_lock(const machine *m)
 {
-    return lock_place(m, reg(m, THREAD_N));
+    return lock_place(m, reg(m, KERNELSUN_THREAD_N));
 }
 
 /* The owner of the block that register p or q names. */
 static inline place owner_of(const machine *m, size_t field)
 {
-    return block_place(m, reg(m, field), BLOCK_OWNER);
+    return block_place(m, reg(m, field), KERNELSUN_BLOCK_OWNER);
 }
 
 /* ---- The map ---- */
 
 static inline uint32_t map_to(const machine *m, uint32_t entry)
 {
-    put(map_place(m, reg(m, THREAD_N)), entry);
+    put(map_place(m, reg(m, KERNELSUN_THREAD_N)), entry);
     return KERNELSUN_WENT;
 }
 
 /* W3, R2 and U3: p becomes the block of a mapped number; where to go on from each. */
 static inline uint32_t look_up(machine *m, uint32_t if_mapped, uint32_t if_unmapped)
 {
-    uint32_t entry = get(map_place(m, reg(m, THREAD_N)));
+    uint32_t entry = get(map_place(m, reg(m, KERNELSUN_THREAD_N)));
     if (entry == 0) {
         m->next = if_unmapped;
     } else {
-        set_reg(m, THREAD_P, entry - 1);
+        set_reg(m, KERNELSUN_THREAD_P, entry - 1);
         m->next = if_mapped;
     }
     return KERNELSUN_WENT;
@@ -110,7 +107,7 @@ static inline uint32_t look_up_to_read(machine *m, uint32_t if_mapped, uint32_t 
 {
     look_up(m, if_mapped, if_unmapped);
     if (m->next == if_unmapped) {
-        set_reg(m, THREAD_C, 0);
+        set_reg(m, KERNELSUN_THREAD_C, 0);
     }
     return KERNELSUN_WENT;
 }
@@ -119,7 +116,7 @@ static inline uint32_t look_up_to_read(machine *m, uint32_t if_mapped, uint32_t 
 
 static inline int may_write_header(const machine *m, uint32_t p)
 {
-    return is_mine(m, headers_owner(m)) && is_mine(m, block_place(m, p, BLOCK_OWNER));
+    return is_mine(m, headers_owner(m)) && is_mine(m, block_place(m, p, KERNELSUN_BLOCK_OWNER));
 }
 
 static inline uint32_t write_header(const machine *m, uint32_t p, uint32_t header)
@@ -127,7 +124,7 @@ static inline uint32_t write_header(const machine *m, uint32_t p, uint32_t heade
     if (!may_write_header(m, p)) {
         return KERNELSUN_FAULT;
     }
-    put(block_place(m, p, BLOCK_HEADER), header);
+    put(block_place(m, p, KERNELSUN_BLOCK_HEADER), header);
     return KERNELSUN_WENT;
 }
 
@@ -137,15 +134,16 @@ static inline uint32_t free_and_wear(const machine *m, uint32_t p)
     if (!may_write_header(m, p)) {
         return KERNELSUN_FAULT;
     }
-    uint32_t wear = get(block_place(m, p, BLOCK_WEAR));
-    put(block_place(m, p, BLOCK_HEADER), 0);
-    put(block_place(m, p, BLOCK_WEAR), wear + (wear != WORD_MOST));
+    uint32_t wear = get(block_place(m, p, KERNELSUN_BLOCK_WEAR));
+    put(block_place(m, p, KERNELSUN_BLOCK_HEADER), 0);
+    put(block_place(m, p, KERNELSUN_BLOCK_WEAR), wear + (wear != KERNELSUN_WEAR_MOST));
     return KERNELSUN_WENT;
 }
 
 static inline int content_within_reach(const machine *m, uint32_t p)
 {
-    return is_mine(m, block_place(m, p, BLOCK_OWNER)) && get(block_place(m, p, BLOCK_HEADER)) != 0;
+    return is_mine(m, block_place(m, p, KERNELSUN_BLOCK_OWNER)) &&
+           get(block_place(m, p, KERNELSUN_BLOCK_HEADER)) != 0;
 }
 
 static inline uint32_t read_content(const machine *m, uint32_t p)
@@ -153,7 +151,7 @@ static inline uint32_t read_content(const machine *m, uint32_t p)
     if (!content_within_reach(m, p)) {
         return KERNELSUN_FAULT;
     }
-    set_reg(m, THREAD_C, get(block_place(m, p, BLOCK_CONTENT)));
+    set_reg(m, KERNELSUN_THREAD_C, get(block_place(m, p, KERNELSUN_BLOCK_CONTENT)));
     return KERNELSUN_WENT;
 }
 
@@ -162,7 +160,7 @@ static inline uint32_t write_content(const machine *m, uint32_t p, uint32_t cont
     if (!content_within_reach(m, p)) {
         return KERNELSUN_FAULT;
     }
-    put(block_place(m, p, BLOCK_CONTENT), content);
+    put(block_place(m, p, KERNELSUN_BLOCK_CONTENT), content);
     return KERNELSUN_WENT;
 }
 
@@ -171,18 +169,18 @@ static inline uint32_t read_header(const machine *m, uint32_t p)
     if (!is_mine(m, headers_owner(m))) {
         return KERNELSUN_FAULT;
     }
-    set_reg(m, THREAD_H, get(block_place(m, p, BLOCK_HEADER)));
+    set_reg(m, KERNELSUN_THREAD_H, get(block_place(m, p, KERNELSUN_BLOCK_HEADER)));
     return KERNELSUN_WENT;
 }
 
 /* L5. */
 static inline uint32_t look_at_header(machine *m, uint32_t if_free)
 {
-    uint32_t header = reg(m, THREAD_H);
+    uint32_t header = reg(m, KERNELSUN_THREAD_H);
     if (header == 0) {
         m->next = if_free;
     } else {
-        set_reg(m, THREAD_N, header - 1);
+        set_reg(m, KERNELSUN_THREAD_N, header - 1);
     }
     return KERNELSUN_WENT;
 }
@@ -196,13 +194,13 @@ static inline uint32_t choose_free(const machine *m)
     if (!is_mine(m, headers_owner(m))) {
         return KERNELSUN_FAULT;
     }
-    while (p < most && get(block_place(m, p, BLOCK_HEADER)) != 0) {
+    while (p < most && get(block_place(m, p, KERNELSUN_BLOCK_HEADER)) != 0) {
         p++;
     }
     if (p == most) {
         return KERNELSUN_FAULT;
     }
-    set_reg(m, THREAD_P, p);
+    set_reg(m, KERNELSUN_THREAD_P, p);
     return KERNELSUN_WENT;
 }
 
@@ -213,7 +211,7 @@ typedef struct {
 } found;
 
 #define LESS_THAN_ANY_WEAR ((int64_t)-1)
-#define MORE_THAN_ANY_WEAR ((int64_t)WORD_MOST + 1)
+#define MORE_THAN_ANY_WEAR ((int64_t)KERNELSUN_WEAR_MOST + 1)
 
 /*
  * Both searches in one pass. Lower numbers come first and keep their place on
@@ -223,8 +221,8 @@ __attribute__((noinline)) static void search_from_and_to(const machine *m, found
 {
     found least = {m->s.p, MORE_THAN_ANY_WEAR}, most = {m->s.p, LESS_THAN_ANY_WEAR};
     for (uint32_t p = 0, count = m->s.p; p < count; p++) {
-        int64_t wear = get(block_place(m, p, BLOCK_WEAR));
-        if (get(block_place(m, p, BLOCK_HEADER)) == 0) {
+        int64_t wear = get(block_place(m, p, KERNELSUN_BLOCK_WEAR));
+        if (get(block_place(m, p, KERNELSUN_BLOCK_HEADER)) == 0) {
             if (wear > most.wear) {
                 most = (found){p, wear};
             }
@@ -247,8 +245,8 @@ static inline uint32_t choose_from_and_to(const machine *m)
     if (to.block == m->s.p) {
         return KERNELSUN_FAULT;
     }
-    set_reg(m, THREAD_P, to.wear < from.wear + m->s.d ? to.block : from.block);
-    set_reg(m, THREAD_Q, to.block);
+    set_reg(m, KERNELSUN_THREAD_P, to.wear < from.wear + m->s.d ? to.block : from.block);
+    set_reg(m, KERNELSUN_THREAD_Q, to.block);
     return KERNELSUN_WENT;
 }
 
@@ -262,16 +260,16 @@ static uint32_t write_line(machine *m, uint32_t line)
     case 3: return look_up(m, 12, 4);
     case 4: return own(m, headers_owner(m));
     case 5: return choose_free(m);
-    case 6: return own(m, owner_of(m, THREAD_P));
-    case 7: return write_header(m, reg(m, THREAD_P), reg(m, THREAD_N) + 1);
-    case 8: return write_content(m, reg(m, THREAD_P), 0);
-    case 9: return let_go(m, owner_of(m, THREAD_P));
-    case 10: return map_to(m, reg(m, THREAD_P) + 1);
+    case 6: return own(m, owner_of(m, KERNELSUN_THREAD_P));
+    case 7: return write_header(m, reg(m, KERNELSUN_THREAD_P), reg(m, KERNELSUN_THREAD_N) + 1);
+    case 8: return write_content(m, reg(m, KERNELSUN_THREAD_P), 0);
+    case 9: return let_go(m, owner_of(m, KERNELSUN_THREAD_P));
+    case 10: return map_to(m, reg(m, KERNELSUN_THREAD_P) + 1);
     case 11: return let_go(m, headers_owner(m));
     case 12: return let_go(m, header_lock(m));
-    case 13: return own(m, owner_of(m, THREAD_P));
-    case 14: return write_content(m, reg(m, THREAD_P), reg(m, THREAD_C));
-    case 15: return let_go(m, owner_of(m, THREAD_P));
+    case 13: return own(m, owner_of(m, KERNELSUN_THREAD_P));
+    case 14: return write_content(m, reg(m, KERNELSUN_THREAD_P), reg(m, KERNELSUN_THREAD_C));
+    case 15: return let_go(m, owner_of(m, KERNELSUN_THREAD_P));
     default: return let_go(m, n_lock(m));
     }
 }
@@ -281,9 +279,9 @@ static uint32_t read_line(machine *m, uint32_t line)
     switch (line) {
     case 1: return take(m, n_lock(m));
     case 2: return look_up_to_read(m, 3, 6);
-    case 3: return own(m, owner_of(m, THREAD_P));
-    case 4: return read_content(m, reg(m, THREAD_P));
-    case 5: return let_go(m, owner_of(m, THREAD_P));
+    case 3: return own(m, owner_of(m, KERNELSUN_THREAD_P));
+    case 4: return read_content(m, reg(m, KERNELSUN_THREAD_P));
+    case 5: return let_go(m, owner_of(m, KERNELSUN_THREAD_P));
     default: return let_go(m, n_lock(m));
     }
 }
@@ -295,10 +293,10 @@ static uint32_t unmap_line(machine *m, uint32_t line)
     case 2: return take(m, n_lock(m));
     case 3: return look_up(m, 4, 10);
     case 4: return own(m, headers_owner(m));
-    case 5: return own(m, owner_of(m, THREAD_P));
+    case 5: return own(m, owner_of(m, KERNELSUN_THREAD_P));
     case 6: return map_to(m, 0);
-    case 7: return free_and_wear(m, reg(m, THREAD_P));
-    case 8: return let_go(m, owner_of(m, THREAD_P));
+    case 7: return free_and_wear(m, reg(m, KERNELSUN_THREAD_P));
+    case 8: return let_go(m, owner_of(m, KERNELSUN_THREAD_P));
     case 9: return let_go(m, headers_owner(m));
     case 10: return let_go(m, n_lock(m));
     default: return let_go(m, header_lock(m));
@@ -311,18 +309,18 @@ static uint32_t level_line(machine *m, uint32_t line)
     case 1: return take(m, header_lock(m));
     case 2: return own(m, headers_owner(m));
     case 3: return choose_from_and_to(m);
-    case 4: return read_header(m, reg(m, THREAD_P));
+    case 4: return read_header(m, reg(m, KERNELSUN_THREAD_P));
     case 5: return look_at_header(m, 17);
     case 6: return take(m, n_lock(m));
-    case 7: return own(m, owner_of(m, THREAD_P));
-    case 8: return read_content(m, reg(m, THREAD_P));
-    case 9: return own(m, owner_of(m, THREAD_Q));
-    case 10: return write_header(m, reg(m, THREAD_Q), reg(m, THREAD_H));
-    case 11: return write_content(m, reg(m, THREAD_Q), reg(m, THREAD_C));
-    case 12: return map_to(m, reg(m, THREAD_Q) + 1);
-    case 13: return free_and_wear(m, reg(m, THREAD_P));
-    case 14: return let_go(m, owner_of(m, THREAD_Q));
-    case 15: return let_go(m, owner_of(m, THREAD_P));
+    case 7: return own(m, owner_of(m, KERNELSUN_THREAD_P));
+    case 8: return read_content(m, reg(m, KERNELSUN_THREAD_P));
+    case 9: return own(m, owner_of(m, KERNELSUN_THREAD_Q));
+    case 10: return write_header(m, reg(m, KERNELSUN_THREAD_Q), reg(m, KERNELSUN_THREAD_H));
+    case 11: return write_content(m, reg(m, KERNELSUN_THREAD_Q), reg(m, KERNELSUN_THREAD_C));
+    case 12: return map_to(m, reg(m, KERNELSUN_THREAD_Q) + 1);
+    case 13: return free_and_wear(m, reg(m, KERNELSUN_THREAD_P));
+    case 14: return let_go(m, owner_of(m, KERNELSUN_THREAD_Q));
+    case 15: return let_go(m, owner_of(m, KERNELSUN_THREAD_P));
     case 16: return let_go(m, n_lock(m));
     case 17: return let_go(m, headers_owner(m));
     default: return let_go(m, header_lock(m));
@@ -344,8 +342,8 @@ static inline uint32_t line_of(machine *m, uint32_t op, uint32_t line)
 static inline uint32_t finishing_value(const machine *m, uint32_t op)
 {
     switch (op) {
-    case KERNELSUN_READ: return reg(m, THREAD_C);
-    case KERNELSUN_LEVEL: return reg(m, THREAD_H) != 0;
+    case KERNELSUN_READ: return reg(m, KERNELSUN_THREAD_C);
+    case KERNELSUN_LEVEL: return reg(m, KERNELSUN_THREAD_H) != 0;
     default: return 0;
     }
 }
@@ -353,7 +351,7 @@ static inline uint32_t finishing_value(const machine *m, uint32_t op)
 static inline uint64_t finish(const machine *m, uint32_t op)
 {
     uint32_t value = finishing_value(m, op);
-    for (size_t field = 0; field < THREAD_WORDS; field++) {
+    for (size_t field = 0; field < KERNELSUN_THREAD_WORDS; field++) {
         set_reg(m, field, 0);
     }
     return answer(KERNELSUN_FINISHED, value);
@@ -362,16 +360,16 @@ static inline uint64_t finish(const machine *m, uint32_t op)
 /* The next line of a thread that isn't idle. */
 static inline uint64_t do_line(machine *m)
 {
-    uint32_t op = reg(m, THREAD_OP), line = reg(m, THREAD_LINE);
+    uint32_t op = reg(m, KERNELSUN_THREAD_OPERATION), line = reg(m, KERNELSUN_THREAD_LINE);
     m->next = line + 1;
     uint32_t number = line_of(m, op, line);
     if (number != KERNELSUN_WENT) {
         return answer(number, 0);
     }
-    if (line == last_line(op)) {
+    if (line == kernelsun_last_line(op)) {
         return finish(m, op);
     }
-    set_reg(m, THREAD_LINE, m->next);
+    set_reg(m, KERNELSUN_THREAD_LINE, m->next);
     return answer(KERNELSUN_WENT, 0);
 }
 

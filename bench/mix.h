@@ -7,8 +7,7 @@
 #define KERNELSUN_BENCH_MIX_H
 
 #include "chance.h"
-#include "kernelsun.h"
-#include "layout.h"
+#include "kernelsun_view.h"
 
 /* The least, so that levelling has something to move as often as can be. */
 enum { MIX_DISTANCE = 1 };
@@ -18,7 +17,7 @@ enum { MIX_SEED = 1990 };
 
 typedef struct {
     const char *name;
-    sizes s;
+    kernelsun_sizes s;
 } mix_area;
 
 enum { MIX_SMALLEST, MIX_MIDDLE, MIX_LARGEST, MIX_AREAS };
@@ -47,7 +46,7 @@ static inline uint32_t mix_op(chance *dice)
 }
 
 /* One operation of the mix, with the words that begin writes for it. */
-static inline operation mix_next(chance *dice, const sizes *s)
+static inline operation mix_next(chance *dice, const kernelsun_sizes *s)
 {
     operation o = {mix_op(dice), chance_below(dice, s->n), chance_word(dice)};
     o.n = o.op == KERNELSUN_LEVEL ? 0 : o.n;
@@ -56,7 +55,7 @@ static inline operation mix_next(chance *dice, const sizes *s)
 }
 
 /* Operations go round the threads: each is done whole before the next begins. */
-static inline uint32_t mix_thread(const sizes *s, size_t turn)
+static inline uint32_t mix_thread(const kernelsun_sizes *s, size_t turn)
 {
     return (uint32_t)(turn % s->t);
 }

@@ -12,8 +12,8 @@
 
 #include <string.h>
 
-#include "kernelsun.h"
-#include "layout.h"
+#include "kernelsun_view.h"
+#include "put_word.h"
 
 #ifndef PLAIN_LEAVES_EARLY
 #define PLAIN_LEAVES_EARLY 1
@@ -25,12 +25,12 @@ typedef uint8_t *place;
 
 static inline uint32_t get(const uint8_t *word)
 {
-    return word_get(word, 0);
+    return kernelsun_word(word, 0);
 }
 
 static inline void put(place word, uint32_t value)
 {
-    word_put(word, 0, value);
+    put_word(word, 0, value);
 }
 
 static inline place word_at(place table, size_t index)
@@ -40,17 +40,17 @@ static inline place word_at(place table, size_t index)
 
 typedef struct {
     place head, record, map, locks, blocks;
-    sizes s;
+    kernelsun_sizes s;
     uint32_t mine, next;
 } machine;
 
 static inline machine machine_at(uint8_t *area, uint32_t thread)
 {
-    machine m = {.head = area, .s = sizes_of(area), .mine = thread + 1};
-    m.record = word_at(area, thread_word(thread, 0));
-    m.map = word_at(area, map_word(&m.s, 0));
-    m.locks = word_at(area, lock_word(&m.s, 0));
-    m.blocks = word_at(area, block_word(&m.s, 0, 0));
+    machine m = {.head = area, .s = kernelsun_sizes_of(area), .mine = thread + 1};
+    m.record = word_at(area, kernelsun_at_thread(thread, 0));
+    m.map = word_at(area, kernelsun_at_map(&m.s, 0));
+    m.locks = word_at(area, kernelsun_at_lock(&m.s, 0));
+    m.blocks = word_at(area, kernelsun_at_block(&m.s, 0, 0));
     return m;
 }
 
@@ -61,12 +61,12 @@ static inline place reg_place(const machine *m, size_t field)
 
 static inline place header_lock(const machine *m)
 {
-    return word_at(m->head, WORD_HEADER_LOCK);
+    return word_at(m->head, KERNELSUN_AT_LOCK);
 }
 
 static inline place headers_owner(const machine *m)
 {
-    return word_at(m->head, WORD_HEADERS_OWNER);
+    return word_at(m->head, KERNELSUN_AT_OWNER);
 }
 
 static inline place map_place(const machine *m, uint32_t n)
@@ -81,7 +81,7 @@ static inline place lock_place(const machine *m, uint32_t n)
 
 static inline place block_place(const machine *m, uint32_t p, size_t field)
 {
-    return word_at(m->blocks, (size_t)BLOCK_WORDS * p + field);
+    return word_at(m->blocks, (size_t)KERNELSUN_BLOCK_WORDS * p + field);
 }
 
 #include "lines.h"
@@ -93,7 +93,7 @@ static inline int within(uint32_t value, uint32_t least, uint32_t most)
     return value >= least && value <= most;
 }
 
-static inline int sizes_in_limits(const sizes *s)
+static inline int sizes_in_limits(const kernelsun_sizes *s)
 {
     return within(s->t, KERNELSUN_THREADS_LEAST, KERNELSUN_THREADS_MOST) &&
            within(s->n, KERNELSUN_LOGICAL_LEAST, KERNELSUN_LOGICAL_MOST) &&
@@ -101,23 +101,26 @@ static inline int sizes_in_limits(const sizes *s)
            within(s->d, KERNELSUN_DISTANCE_LEAST, KERNELSUN_DISTANCE_MOST);
 }
 
-static inline int record_well_formed(const uint8_t *record, const sizes *s)
+static inline int record_well_formed(const uint8_t *record, const kernelsun_sizes *s)
 {
-    uint32_t op = word_get(record, THREAD_OP), line = word_get(record, THREAD_LINE);
-    uint32_t n = word_get(record, THREAD_N), c = word_get(record, THREAD_C);
-    uint32_t p = word_get(record, THREAD_P), q = word_get(record, THREAD_Q);
-    uint32_t h = word_get(record, THREAD_H);
+    uint32_t op = kernelsun_word(record, KERNELSUN_THREAD_OPERATION);
+    uint32_t line = kernelsun_word(record, KERNELSUN_THREAD_LINE);
+    uint32_t n = kernelsun_word(record, KERNELSUN_THREAD_N);
+    uint32_t c = kernelsun_word(record, KERNELSUN_THREAD_C);
+    uint32_t p = kernelsun_word(record, KERNELSUN_THREAD_P);
+    uint32_t q = kernelsun_word(record, KERNELSUN_THREAD_Q);
+    uint32_t h = kernelsun_word(record, KERNELSUN_THREAD_H);
     if (op == 0) {
         return (line | n | c | p | q | h) == 0;
     }
-    return op <= OPERATIONS && within(line, 1, last_line(op)) && n < s->n && p < s->p &&
-           q < s->p && h <= s->n;
+    return op <= KERNELSUN_LEVEL && within(line, 1, kernelsun_last_line(op)) && n < s->n &&
+           p < s->p && q < s->p && h <= s->n;
 }
 
-static inline int records_well_formed(const uint8_t *area, const sizes *s)
+static inline int records_well_formed(const uint8_t *area, const kernelsun_sizes *s)
 {
     for (uint32_t thread = 0; thread < s->t; thread++) {
-        if (!record_well_formed(area + BYTES_IN_WORD * thread_word(thread, 0), s)) {
+        if (!record_well_formed(area + BYTES_IN_WORD * kernelsun_at_thread(thread, 0), s)) {
             return 0;
         }
     }
@@ -131,7 +134,7 @@ static inline int columns_well_formed(const uint8_t *first, uint32_t first_most,
 {
     int good = 1;
     for (uint32_t i = 0; i < count; i++) {
-        uint32_t x = word_get(first, stride * i), y = word_get(second, stride * i);
+        uint32_t x = kernelsun_word(first, stride * i), y = kernelsun_word(second, stride * i);
         if (PLAIN_LEAVES_EARLY && (x > first_most || y > second_most)) {
             return 0;
         }
@@ -140,48 +143,49 @@ static inline int columns_well_formed(const uint8_t *first, uint32_t first_most,
     return good;
 }
 
-static inline int map_and_locks_well_formed(const uint8_t *area, const sizes *s)
+static inline int map_and_locks_well_formed(const uint8_t *area, const kernelsun_sizes *s)
 {
-    const uint8_t *map = area + BYTES_IN_WORD * map_word(s, 0);
-    const uint8_t *locks = area + BYTES_IN_WORD * lock_word(s, 0);
+    const uint8_t *map = area + BYTES_IN_WORD * kernelsun_at_map(s, 0);
+    const uint8_t *locks = area + BYTES_IN_WORD * kernelsun_at_lock(s, 0);
     return columns_well_formed(map, s->p, locks, s->t, 1, s->n);
 }
 
-static inline int blocks_well_formed(const uint8_t *area, const sizes *s)
+static inline int blocks_well_formed(const uint8_t *area, const kernelsun_sizes *s)
 {
-    const uint8_t *headers = area + BYTES_IN_WORD * block_word(s, 0, BLOCK_HEADER);
-    const uint8_t *owners = area + BYTES_IN_WORD * block_word(s, 0, BLOCK_OWNER);
-    return columns_well_formed(headers, s->n, owners, s->t, BLOCK_WORDS, s->p);
+    const uint8_t *headers =
+        area + BYTES_IN_WORD * kernelsun_at_block(s, 0, KERNELSUN_BLOCK_HEADER);
+    const uint8_t *owners = area + BYTES_IN_WORD * kernelsun_at_block(s, 0, KERNELSUN_BLOCK_OWNER);
+    return columns_well_formed(headers, s->n, owners, s->t, KERNELSUN_BLOCK_WORDS, s->p);
 }
 
 static inline int well_formed(const uint8_t *area, size_t len)
 {
-    if (len < BYTES_IN_WORD * HEAD_WORDS) {
+    if (len < BYTES_IN_WORD * KERNELSUN_HEAD_WORDS) {
         return 0;
     }
-    sizes s = sizes_of(area);
-    return sizes_in_limits(&s) && len == area_length(&s) &&
-           word_get(area, WORD_HEADER_LOCK) <= s.t && word_get(area, WORD_HEADERS_OWNER) <= s.t &&
-           records_well_formed(area, &s) && map_and_locks_well_formed(area, &s) &&
-           blocks_well_formed(area, &s);
+    kernelsun_sizes s = kernelsun_sizes_of(area);
+    return sizes_in_limits(&s) && len == KERNELSUN_LENGTH(s.t, s.n, s.p) &&
+           kernelsun_word(area, KERNELSUN_AT_LOCK) <= s.t &&
+           kernelsun_word(area, KERNELSUN_AT_OWNER) <= s.t && records_well_formed(area, &s) &&
+           map_and_locks_well_formed(area, &s) && blocks_well_formed(area, &s);
 }
 
 /* ---- The three calls ---- */
 
 uint64_t plain_format(uint8_t *area, size_t len, uint32_t t, uint32_t n, uint32_t p, uint32_t d)
 {
-    sizes s = {t, n, p, d};
+    kernelsun_sizes s = {t, n, p, d};
     if (!sizes_in_limits(&s)) {
         return answer(KERNELSUN_LIMITS, 0);
     }
-    if (len != area_length(&s)) {
+    if (len != KERNELSUN_LENGTH(s.t, s.n, s.p)) {
         return answer(KERNELSUN_SHAPE, 0);
     }
     memset(area, 0, len);
-    word_put(area, WORD_T, t);
-    word_put(area, WORD_N, n);
-    word_put(area, WORD_P, p);
-    word_put(area, WORD_D, d);
+    put_word(area, KERNELSUN_AT_T, t);
+    put_word(area, KERNELSUN_AT_N, n);
+    put_word(area, KERNELSUN_AT_P, p);
+    put_word(area, KERNELSUN_AT_D, d);
     return answer(KERNELSUN_WENT, 0);
 }
 
@@ -191,16 +195,16 @@ static uint32_t begin_refusal(const uint8_t *area, size_t len, uint32_t thread, 
     if (!well_formed(area, len)) {
         return KERNELSUN_SHAPE;
     }
-    if (thread >= word_get(area, WORD_T)) {
+    if (thread >= kernelsun_word(area, KERNELSUN_AT_T)) {
         return KERNELSUN_THREAD;
     }
-    if (word_get(area, thread_word(thread, THREAD_OP)) != 0) {
+    if (kernelsun_word(area, kernelsun_at_thread(thread, KERNELSUN_THREAD_OPERATION)) != 0) {
         return KERNELSUN_BUSY;
     }
     if (!within(op, KERNELSUN_WRITE, KERNELSUN_LEVEL)) {
         return KERNELSUN_OPERATION;
     }
-    if (op != KERNELSUN_LEVEL && n >= word_get(area, WORD_N)) {
+    if (op != KERNELSUN_LEVEL && n >= kernelsun_word(area, KERNELSUN_AT_N)) {
         return KERNELSUN_LOGICAL;
     }
     return KERNELSUN_WENT;
@@ -211,10 +215,12 @@ uint64_t plain_begin(uint8_t *area, size_t len, uint32_t thread, uint32_t op, ui
 {
     uint32_t refusal = begin_refusal(area, len, thread, op, n);
     if (refusal == KERNELSUN_WENT) {
-        word_put(area, thread_word(thread, THREAD_OP), op);
-        word_put(area, thread_word(thread, THREAD_LINE), 1);
-        word_put(area, thread_word(thread, THREAD_N), op == KERNELSUN_LEVEL ? 0 : n);
-        word_put(area, thread_word(thread, THREAD_C), op == KERNELSUN_WRITE ? c : 0);
+        put_word(area, kernelsun_at_thread(thread, KERNELSUN_THREAD_OPERATION), op);
+        put_word(area, kernelsun_at_thread(thread, KERNELSUN_THREAD_LINE), 1);
+        put_word(area, kernelsun_at_thread(thread, KERNELSUN_THREAD_N),
+                 op == KERNELSUN_LEVEL ? 0 : n);
+        put_word(area, kernelsun_at_thread(thread, KERNELSUN_THREAD_C),
+                 op == KERNELSUN_WRITE ? c : 0);
     }
     return answer(refusal, 0);
 }
@@ -224,10 +230,10 @@ uint32_t plain_step_refusal(const uint8_t *area, size_t len, uint32_t thread)
     if (!well_formed(area, len)) {
         return KERNELSUN_SHAPE;
     }
-    if (thread >= word_get(area, WORD_T)) {
+    if (thread >= kernelsun_word(area, KERNELSUN_AT_T)) {
         return KERNELSUN_THREAD;
     }
-    if (word_get(area, thread_word(thread, THREAD_OP)) == 0) {
+    if (kernelsun_word(area, kernelsun_at_thread(thread, KERNELSUN_THREAD_OPERATION)) == 0) {
         return KERNELSUN_IDLE;
     }
     return KERNELSUN_WENT;

@@ -8,8 +8,7 @@
 #include <stdlib.h>
 #include <string.h>
 
-#include "kernelsun.h"
-#include "layout.h"
+#include "kernelsun_view.h"
 #include "mix.h"
 #include "plain.h"
 
@@ -47,22 +46,23 @@ static void expect(const script *to, uint64_t r)
     fprintf(to->output, "%u %u\n", (unsigned)kernelsun_number(r), (unsigned)kernelsun_value(r));
 }
 
-static void add_format(script *to, uint8_t *area, const sizes *s)
+static void add_format(script *to, uint8_t *area, const kernelsun_sizes *s)
 {
     to->bytes += fprintf(to->input, "f %u %u %u %u\n", (unsigned)s->t, (unsigned)s->n,
                          (unsigned)s->p, (unsigned)s->d);
-    expect(to, plain_format(area, area_length(s), s->t, s->n, s->p, s->d));
+    expect(to, plain_format(area, KERNELSUN_LENGTH(s->t, s->n, s->p), s->t, s->n, s->p, s->d));
 }
 
-static void add_operation(script *to, uint8_t *area, const sizes *s, uint32_t thread, operation o)
+static void add_operation(script *to, uint8_t *area, const kernelsun_sizes *s, uint32_t thread,
+                          operation o)
 {
     to->bytes += fprintf(to->input, "b %u %u %u %u\n", (unsigned)thread, (unsigned)o.op,
                          (unsigned)o.n, (unsigned)o.c);
-    uint64_t r = plain_begin(area, area_length(s), thread, o.op, o.n, o.c);
+    uint64_t r = plain_begin(area, KERNELSUN_LENGTH(s->t, s->n, s->p), thread, o.op, o.n, o.c);
     expect(to, r);
     while (kernelsun_number(r) == KERNELSUN_WENT) {
         to->bytes += fprintf(to->input, "s %u\n", (unsigned)thread);
-        r = plain_step(area, area_length(s), thread);
+        r = plain_step(area, KERNELSUN_LENGTH(s->t, s->n, s->p), thread);
         expect(to, r);
     }
 }
@@ -74,7 +74,7 @@ int main(int argc, char **argv)
         fprintf(stderr, "usage: %s AREA INPUT OUTPUT\n", argv[0]);
         return 2;
     }
-    sizes s = area_named(argv[1])->s;
+    kernelsun_sizes s = area_named(argv[1])->s;
     script to = {opened(argv[2]), opened(argv[3]), 0};
     chance dice = chance_from(MIX_SEED);
     add_format(&to, area, &s);

@@ -12,7 +12,7 @@
 #include <stdio.h>
 #include <stdlib.h>
 
-#include "kernelsun.h"
+#include "kernelsun_view.h"
 
 /* Three threads: one for each track and one for the leveller. */
 enum { TRACK_A, TRACK_B, LEVELLER, THREADS };
@@ -31,7 +31,7 @@ static uint8_t area[KERNELSUN_LENGTH(THREADS, LOGICAL, PHYSICAL)];
 static void stop_unless(int good, const char *what, uint64_t result)
 {
     if (!good) {
-        fprintf(stderr, "%s gave number %u\n", what, (unsigned)kernelsun_number(result));
+        fprintf(stderr, "%s gave %s\n", what, kernelsun_name(kernelsun_number(result)));
         exit(1);
     }
 }

@@ -174,7 +174,9 @@ static inline uint32_t kernelsun_named(uint32_t word)
 /* A word of a thread's record, of the map, of the locks, of a block; 0 past the last of them. */
 static inline uint32_t kernelsun_of_thread(const uint8_t *area, uint32_t thread, size_t word)
 {
-    return thread < kernelsun_t(area) ? kernelsun_word(area, kernelsun_at_thread(thread, word)) : 0;
+    return thread < kernelsun_t(area) && word < (size_t)KERNELSUN_THREAD_WORDS
+               ? kernelsun_word(area, kernelsun_at_thread(thread, word))
+               : 0;
 }
 
 static inline uint32_t kernelsun_of_map(const uint8_t *area, uint32_t n)
@@ -192,7 +194,9 @@ static inline uint32_t kernelsun_of_lock(const uint8_t *area, uint32_t n)
 static inline uint32_t kernelsun_of_block(const uint8_t *area, uint32_t p, size_t word)
 {
     kernelsun_sizes s = kernelsun_sizes_of(area);
-    return p < s.p ? kernelsun_word(area, kernelsun_at_block(&s, p, word)) : 0;
+    return p < s.p && word < (size_t)KERNELSUN_BLOCK_WORDS
+               ? kernelsun_word(area, kernelsun_at_block(&s, p, word))
+               : 0;
 }
 
 /* ---- Locks and owners: a thread, or KERNELSUN_NONE ---- */

@@ -3,12 +3,10 @@
 
 #include <stdio.h>
 
-#define WORD_MOST 0xffffffffu
-
 enum { NUMBERS = KERNELSUN_LIMITS + 1 };
 
 static unsigned long by_call[CALLS][NUMBERS];
-static unsigned long by_line[OPERATIONS + 1][LINES_MOST + 1][NUMBERS];
+static unsigned long by_line[KERNELSUN_LEVEL + 1][LINES_MOST + 1][NUMBERS];
 
 enum {
     W3_MAPPED, W3_UNMAPPED, W5_BEYOND_FIRST, R2_MAPPED, R2_UNMAPPED, R6_NOT_0, U3_MAPPED,
@@ -32,19 +30,9 @@ static unsigned long acts[ACTS];
 
 typedef struct {
     const area *before, *after;
-    sizes s;
+    kernelsun_sizes s;
     uint32_t thread, op, line, number, value;
 } met;
-
-static uint32_t reg_before(const met *m, size_t field)
-{
-    return word_get(m->before->bytes, thread_word(m->thread, field));
-}
-
-static uint32_t reg_after(const met *m, size_t field)
-{
-    return word_get(m->after->bytes, thread_word(m->thread, field));
-}
 
 static int is_at(const met *m, uint32_t op, uint32_t line)
 {
@@ -53,7 +41,8 @@ static int is_at(const met *m, uint32_t op, uint32_t line)
 
 static void count_branches(const met *m)
 {
-    int jumped = reg_after(m, THREAD_LINE) != m->line + 1;
+    const uint8_t *after = m->after->bytes;
+    int jumped = kernelsun_line(after, m->thread) != m->line + 1;
     if (is_at(m, KERNELSUN_WRITE, 3)) {
         acts[jumped ? W3_MAPPED : W3_UNMAPPED]++;
     } else if (is_at(m, KERNELSUN_READ, 2)) {
@@ -63,14 +52,15 @@ static void count_branches(const met *m)
     } else if (is_at(m, KERNELSUN_LEVEL, 5)) {
         acts[jumped ? L5_FREE : L5_USED]++;
     } else if (is_at(m, KERNELSUN_WRITE, 5)) {
-        acts[W5_BEYOND_FIRST] += reg_after(m, THREAD_P) != 0;
+        acts[W5_BEYOND_FIRST] += kernelsun_register_p(after, m->thread) != 0;
     }
 }
 
 static void count_wear(const met *m)
 {
-    size_t wear = block_word(&m->s, reg_before(m, THREAD_P), BLOCK_WEAR);
-    if (word_get(m->before->bytes, wear) == WORD_MOST) {
+    const uint8_t *before = m->before->bytes;
+    uint32_t p = kernelsun_register_p(before, m->thread);
+    if (kernelsun_wear(before, p) == KERNELSUN_WEAR_MOST) {
         acts[U7_STAYS] += is_at(m, KERNELSUN_UNMAP, 7);
         acts[L13_STAYS] += is_at(m, KERNELSUN_LEVEL, 13);
     }
@@ -92,9 +82,8 @@ static uint32_t alike(const met *m, uint32_t chosen, int used)
     uint32_t count = 0;
     const uint8_t *bytes = m->before->bytes;
     for (uint32_t p = 0; p < m->s.p; p++) {
-        int is_used = word_get(bytes, block_word(&m->s, p, BLOCK_HEADER)) != 0;
-        count += is_used == used && word_get(bytes, block_word(&m->s, p, BLOCK_WEAR)) ==
-                                        word_get(bytes, block_word(&m->s, chosen, BLOCK_WEAR));
+        int is_used = kernelsun_header(bytes, p) != KERNELSUN_NONE;
+        count += is_used == used && kernelsun_wear(bytes, p) == kernelsun_wear(bytes, chosen);
     }
     return count;
 }
@@ -102,8 +91,7 @@ static uint32_t alike(const met *m, uint32_t chosen, int used)
 static void count_chosen(const met *m, uint32_t from, uint32_t to)
 {
     const uint8_t *bytes = m->before->bytes;
-    uint64_t wear_from = word_get(bytes, block_word(&m->s, from, BLOCK_WEAR));
-    uint64_t wear_to = word_get(bytes, block_word(&m->s, to, BLOCK_WEAR));
+    uint64_t wear_from = kernelsun_wear(bytes, from), wear_to = kernelsun_wear(bytes, to);
     acts[L3_MOVES]++;
     acts[L3_JUST_ENOUGH] += wear_to == wear_from + m->s.d;
     acts[L3_TIE_OF_FROM] += alike(m, from, 1) > 1;
@@ -116,8 +104,8 @@ static void count_nothing_to_move(const met *m)
     const uint8_t *bytes = m->before->bytes;
     uint64_t least = UINT64_MAX;
     for (uint32_t p = 0; p < m->s.p; p++) {
-        uint64_t wear = word_get(bytes, block_word(&m->s, p, BLOCK_WEAR));
-        if (word_get(bytes, block_word(&m->s, p, BLOCK_HEADER)) != 0 && wear < least) {
+        uint64_t wear = kernelsun_wear(bytes, p);
+        if (kernelsun_header(bytes, p) != KERNELSUN_NONE && wear < least) {
             least = wear;
         }
     }
@@ -126,12 +114,13 @@ static void count_nothing_to_move(const met *m)
         return;
     }
     acts[L3_TOO_NEAR]++;
-    acts[L3_BEYOND] += least + m->s.d > WORD_MOST;
+    acts[L3_BEYOND] += least + m->s.d > KERNELSUN_WEAR_MOST;
 }
 
 static void count_choice(const met *m)
 {
-    uint32_t from = reg_after(m, THREAD_P), to = reg_after(m, THREAD_Q);
+    uint32_t from = kernelsun_register_p(m->after->bytes, m->thread);
+    uint32_t to = kernelsun_register_q(m->after->bytes, m->thread);
     if (from != to) {
         count_chosen(m, from, to);
     } else {
@@ -141,16 +130,16 @@ static void count_choice(const met *m)
 
 static void count_blocked(const met *m)
 {
-    int block_lock = is_at(m, KERNELSUN_LEVEL, 6) || m->op == KERNELSUN_READ || m->line == 2;
-    size_t lock = block_lock ? lock_word(&m->s, reg_before(m, THREAD_N)) : WORD_HEADER_LOCK;
-    acts[word_get(m->before->bytes, lock) == m->thread + 1 ? BY_ITSELF : BY_ANOTHER]++;
+    const uint8_t *before = m->before->bytes;
+    uint32_t holder = kernelsun_lock_holder(before, kernelsun_next_lock(before, m->thread));
+    acts[holder == m->thread ? BY_ITSELF : BY_ANOTHER]++;
 }
 
 /* W5 and L3 with the headers owned can only fail for want of a free block. */
 static void count_fault(const met *m)
 {
     if (is_at(m, KERNELSUN_WRITE, 5) || is_at(m, KERNELSUN_LEVEL, 3)) {
-        acts[NO_FREE_BLOCK] += word_get(m->before->bytes, WORD_HEADERS_OWNER) == m->thread + 1;
+        acts[NO_FREE_BLOCK] += kernelsun_headers_owner(m->before->bytes) == m->thread;
     }
 }
 
@@ -188,10 +177,16 @@ void coverage_count(const call *c, uint64_t r, const area *before, const area *a
     if (c->which != CALL_STEP || !is_of_line(number)) {
         return;
     }
-    met m = {before, after, sizes_of(before->bytes), c->argument[0], 0, 0, number,
+    met m = {before,
+             after,
+             kernelsun_sizes_of(before->bytes),
+             c->argument[0],
+             0,
+             0,
+             number,
              kernelsun_value(r)};
-    m.op = reg_before(&m, THREAD_OP);
-    m.line = reg_before(&m, THREAD_LINE);
+    m.op = kernelsun_operation(before->bytes, m.thread);
+    m.line = kernelsun_line(before->bytes, m.thread);
     by_line[m.op][m.line][number]++;
     count_acts(&m);
 }
@@ -201,15 +196,15 @@ void coverage_count(const call *c, uint64_t r, const area *before, const area *a
 /* Lines by what they can give besides going on: nothing, BLOCKED or FAULT. */
 static uint32_t refusal_of(uint32_t op, uint32_t line)
 {
-    static const char *const kinds[OPERATIONS + 1] = {
-        "", "bb-ffffff-ffffff", "b-ffff", "bb-ff-fffff", "bfff-bfffff-ffffff"};
+    static const char *const kinds[KERNELSUN_LEVEL + 1] = {"", "bb-ffffff-ffffff", "b-ffff",
+                                                           "bb-ff-fffff", "bfff-bfffff-ffffff"};
     char kind = kinds[op][line - 1];
     return kind == 'b' ? KERNELSUN_BLOCKED : kind == 'f' ? KERNELSUN_FAULT : KERNELSUN_WENT;
 }
 
 static uint32_t going_of(uint32_t op, uint32_t line)
 {
-    return line == last_line(op) ? KERNELSUN_FINISHED : KERNELSUN_WENT;
+    return line == kernelsun_last_line(op) ? KERNELSUN_FINISHED : KERNELSUN_WENT;
 }
 
 typedef struct {
@@ -227,15 +222,14 @@ static void keep_least(least *l, unsigned long count, uint32_t line)
 
 static int report_least(uint32_t op, const char *what, least l)
 {
-    printf(", %s %lu (%s)", what, l.count, line_label(op, l.line).text);
+    printf(", %s %lu (%s)", what, l.count, kernelsun_label(op, l.line));
     return l.count != 0;
 }
 
 static int report_operation(uint32_t op)
 {
-    static const char *const names[] = {"", "write", "read", "unmap", "level"};
     least going = {0, 0}, blocked = {0, 0}, fault = {0, 0};
-    for (uint32_t line = 1; line <= last_line(op); line++) {
+    for (uint32_t line = 1; line <= kernelsun_last_line(op); line++) {
         uint32_t refusal = refusal_of(op, line);
         keep_least(&going, by_line[op][line][going_of(op, line)], line);
         if (refusal != KERNELSUN_WENT) {
@@ -243,7 +237,8 @@ static int report_operation(uint32_t op)
                        by_line[op][line][refusal], line);
         }
     }
-    printf("  %-5s least met of its %2u lines", names[op], (unsigned)last_line(op));
+    printf("  %-5s least met of its %2u lines", kernelsun_operation_name(op),
+           (unsigned)kernelsun_last_line(op));
     int whole = report_least(op, "going on", going);
     whole &= report_least(op, "BLOCKED", blocked);
     whole &= report_least(op, "FAULT", fault);
@@ -274,7 +269,7 @@ static int report_call(int which, const char *name, const uint32_t *numbers, siz
     printf("  %-6s", name);
     for (size_t i = 0; i < count; i++) {
         unsigned long met_times = by_call[which][numbers[i]];
-        printf(" %s %lu%s", number_name(numbers[i]), met_times, met_times ? "" : " NEVER MET");
+        printf(" %s %lu%s", kernelsun_name(numbers[i]), met_times, met_times ? "" : " NEVER MET");
         whole &= met_times != 0;
     }
     printf("\n");
@@ -298,7 +293,7 @@ static int report_calls(void)
 int coverage_is_whole(void)
 {
     int whole = report_calls();
-    for (uint32_t op = 1; op <= OPERATIONS; op++) {
+    for (uint32_t op = KERNELSUN_WRITE; op <= KERNELSUN_LEVEL; op++) {
         whole &= report_operation(op);
     }
     whole &= report_acts();

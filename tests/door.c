@@ -16,7 +16,7 @@
 
 /* ---- format ---- */
 
-static void expect_format(size_t len, sizes s, uint32_t number)
+static void expect_format(size_t len, kernelsun_sizes s, uint32_t number)
 {
     static area a, after;
     fill(&a, len, 0x5a);
@@ -29,9 +29,9 @@ static void expect_format(size_t len, sizes s, uint32_t number)
 
 static void check_limits_accepted(void)
 {
-    static const sizes good[] = {
-        {1, 1, 2, 1},       {16, 1, 2, 1},     {2, 1, 2, 1},      {1, 256, 257, 1},
-        {1, 256, 512, 1},   {1, 1, 512, 1},    {1, 1, 2, 1000},   {16, 256, 512, 1000},
+    static const kernelsun_sizes good[] = {
+        {1, 1, 2, 1},       {16, 1, 2, 1},     {2, 1, 2, 1},    {1, 256, 257, 1},
+        {1, 256, 512, 1},   {1, 1, 512, 1},    {1, 1, 2, 1000}, {16, 256, 512, 1000},
         {3, 255, 256, 999}, {15, 2, 511, 500},
     };
     about("format within the limits gives a fresh area");
@@ -42,7 +42,7 @@ static void check_limits_accepted(void)
 
 static void check_limits_refused(void)
 {
-    static const sizes bad[] = {
+    static const kernelsun_sizes bad[] = {
         {0, 1, 2, 1},     {17, 1, 2, 1},      {MOST, 1, 2, 1},   {1, 0, 2, 1},
         {1, 0, 1, 1},     {1, 257, 258, 1},   {1, 257, 512, 1},  {1, MOST, 2, 1},
         {1, MOST, 0, 1},  {1, 1, 0, 1},       {1, 1, 1, 1},      {1, 256, 256, 1},
@@ -85,7 +85,7 @@ static void check_lengths(void)
     for (size_t i = 0; i < COUNT(wrong_for_120); i++) {
         make_fresh(&a, 2, 1, 2, 1);
         expect_length_refused(&a, wrong_for_120[i]);
-        sizes s = {2, 1, 2, 1};
+        kernelsun_sizes s = {2, 1, 2, 1};
         expect_format(wrong_for_120[i], s, KERNELSUN_SHAPE);
     }
 }
@@ -99,7 +99,7 @@ static void check_longest(void)
     for (size_t i = 0; i < COUNT(wrong); i++) {
         make_fresh(&a, 16, 256, 512, 1000);
         expect_length_refused(&a, wrong[i]);
-        sizes s = {16, 256, 512, 1000};
+        kernelsun_sizes s = {16, 256, 512, 1000};
         expect_format(wrong[i], s, KERNELSUN_SHAPE);
     }
     make_fresh(&a, 16, 256, 512, 1000);
@@ -114,8 +114,8 @@ static void check_longest(void)
 static void make_with_open_level(area *a)
 {
     make_fresh(a, 3, 2, 4, 2);
-    word_put(a->bytes, thread_word(1, THREAD_OP), KERNELSUN_LEVEL);
-    word_put(a->bytes, thread_word(1, THREAD_LINE), 1);
+    put_word(a->bytes, kernelsun_at_thread(1, KERNELSUN_THREAD_OPERATION), KERNELSUN_LEVEL);
+    put_word(a->bytes, kernelsun_at_thread(1, KERNELSUN_THREAD_LINE), 1);
 }
 
 /* Well formed shows in what comes after SHAPE in the order of refusals. */
@@ -130,37 +130,37 @@ static void expect_word_limit(size_t word, uint32_t most)
 {
     static area a;
     make_with_open_level(&a);
-    word_put(a.bytes, word, most);
+    put_word(a.bytes, word, most);
     expect_shape(&a, 1);
     if (most != MOST) {
-        word_put(a.bytes, word, most + 1);
+        put_word(a.bytes, word, most + 1);
         expect_shape(&a, 0);
-        word_put(a.bytes, word, MOST);
+        put_word(a.bytes, word, MOST);
         expect_shape(&a, 0);
     }
 }
 
 static void check_word_limits(void)
 {
-    sizes s = {3, 2, 4, 2};
+    kernelsun_sizes s = {3, 2, 4, 2};
     about("each word at its most and one more");
-    expect_word_limit(WORD_HEADER_LOCK, s.t);
-    expect_word_limit(WORD_HEADERS_OWNER, s.t);
-    expect_word_limit(thread_word(1, THREAD_OP), OPERATIONS);
-    expect_word_limit(thread_word(1, THREAD_N), s.n - 1);
-    expect_word_limit(thread_word(1, THREAD_C), MOST);
-    expect_word_limit(thread_word(1, THREAD_P), s.p - 1);
-    expect_word_limit(thread_word(1, THREAD_Q), s.p - 1);
-    expect_word_limit(thread_word(1, THREAD_H), s.n);
+    expect_word_limit(KERNELSUN_AT_LOCK, s.t);
+    expect_word_limit(KERNELSUN_AT_OWNER, s.t);
+    expect_word_limit(kernelsun_at_thread(1, KERNELSUN_THREAD_OPERATION), KERNELSUN_LEVEL);
+    expect_word_limit(kernelsun_at_thread(1, KERNELSUN_THREAD_N), s.n - 1);
+    expect_word_limit(kernelsun_at_thread(1, KERNELSUN_THREAD_C), MOST);
+    expect_word_limit(kernelsun_at_thread(1, KERNELSUN_THREAD_P), s.p - 1);
+    expect_word_limit(kernelsun_at_thread(1, KERNELSUN_THREAD_Q), s.p - 1);
+    expect_word_limit(kernelsun_at_thread(1, KERNELSUN_THREAD_H), s.n);
     for (uint32_t n = 0; n < s.n; n++) {
-        expect_word_limit(map_word(&s, n), s.p);
-        expect_word_limit(lock_word(&s, n), s.t);
+        expect_word_limit(kernelsun_at_map(&s, n), s.p);
+        expect_word_limit(kernelsun_at_lock(&s, n), s.t);
     }
     for (uint32_t p = 0; p < s.p; p++) {
-        expect_word_limit(block_word(&s, p, BLOCK_HEADER), s.n);
-        expect_word_limit(block_word(&s, p, BLOCK_CONTENT), MOST);
-        expect_word_limit(block_word(&s, p, BLOCK_WEAR), MOST);
-        expect_word_limit(block_word(&s, p, BLOCK_OWNER), s.t);
+        expect_word_limit(kernelsun_at_block(&s, p, KERNELSUN_BLOCK_HEADER), s.n);
+        expect_word_limit(kernelsun_at_block(&s, p, KERNELSUN_BLOCK_CONTENT), MOST);
+        expect_word_limit(kernelsun_at_block(&s, p, KERNELSUN_BLOCK_WEAR), MOST);
+        expect_word_limit(kernelsun_at_block(&s, p, KERNELSUN_BLOCK_OWNER), s.t);
     }
 }
 
@@ -169,12 +169,12 @@ static void check_line_limits(void)
     static const uint32_t last[] = {0, 16, 6, 11, 18};
     static area a;
     about("a line that its operation has");
-    for (uint32_t op = 1; op <= OPERATIONS; op++) {
+    for (uint32_t op = KERNELSUN_WRITE; op <= KERNELSUN_LEVEL; op++) {
         make_with_open_level(&a);
-        word_put(a.bytes, thread_word(1, THREAD_OP), op);
+        put_word(a.bytes, kernelsun_at_thread(1, KERNELSUN_THREAD_OPERATION), op);
         const edit lines[] = {{0, 0}, {1, 1}, {1, last[op]}, {0, last[op] + 1}, {0, MOST}};
         for (size_t i = 0; i < COUNT(lines); i++) {
-            word_put(a.bytes, thread_word(1, THREAD_LINE), lines[i].value);
+            put_word(a.bytes, kernelsun_at_thread(1, KERNELSUN_THREAD_LINE), lines[i].value);
             expect_shape(&a, lines[i].word == 1);
         }
     }
@@ -184,10 +184,10 @@ static void check_idle_records(void)
 {
     static area a;
     about("an idle record is seven zeros");
-    for (size_t field = THREAD_LINE; field < THREAD_WORDS; field++) {
+    for (size_t field = KERNELSUN_THREAD_LINE; field < KERNELSUN_THREAD_WORDS; field++) {
         for (uint32_t thread = 0; thread < 3; thread += 2) {
             make_with_open_level(&a);
-            word_put(a.bytes, thread_word(thread, field), 1);
+            put_word(a.bytes, kernelsun_at_thread(thread, field), 1);
             expect_shape(&a, 0);
         }
     }
@@ -196,10 +196,10 @@ static void check_idle_records(void)
 /* Areas of all zeros but for sizes outside the limits, each of the exact length. */
 static void check_sizes_outside(void)
 {
-    static const sizes bad[] = {
-        {0, 1, 2, 1},     {17, 1, 2, 1},  {1, 0, 2, 1},     {1, 257, 258, 1}, {1, 1, 1, 1},
-        {1, 256, 256, 1}, {1, 1, 513, 1}, {1, 1, 2, 0},     {1, 1, 2, 1001},  {1, 1, 2, MOST},
-        {0, 0, 0, 0},
+    static const kernelsun_sizes bad[] = {
+        {0, 1, 2, 1},    {17, 1, 2, 1},    {1, 0, 2, 1},   {1, 257, 258, 1},
+        {1, 1, 1, 1},    {1, 256, 256, 1}, {1, 1, 513, 1}, {1, 1, 2, 0},
+        {1, 1, 2, 1001}, {1, 1, 2, MOST},  {0, 0, 0, 0},
     };
     static area a;
     about("sizes outside the limits in an area of exact length");
@@ -214,9 +214,10 @@ static void check_sizes_outside(void)
 static void check_sizes_against_length(void)
 {
     static const edit wrong[] = {
-        {WORD_T, 1}, {WORD_T, 3}, {WORD_T, 0x40000002u}, {WORD_T, MOST}, {WORD_N, 2},
-        {WORD_N, 0x80000001u},    {WORD_N, MOST},        {WORD_P, 3},    {WORD_P, 512},
-        {WORD_P, 0x40000002u},    {WORD_P, 0x10000002u}, {WORD_P, MOST},
+        {KERNELSUN_AT_T, 1},           {KERNELSUN_AT_T, 3},           {KERNELSUN_AT_T, 0x40000002u},
+        {KERNELSUN_AT_T, MOST},        {KERNELSUN_AT_N, 2},           {KERNELSUN_AT_N, 0x80000001u},
+        {KERNELSUN_AT_N, MOST},        {KERNELSUN_AT_P, 3},           {KERNELSUN_AT_P, 512},
+        {KERNELSUN_AT_P, 0x40000002u}, {KERNELSUN_AT_P, 0x10000002u}, {KERNELSUN_AT_P, MOST},
     };
     static area a;
     about("sizes that don't agree with the length");
@@ -235,7 +236,7 @@ static void check_begin_order(void)
     static area a;
     about("the order of what begin refuses");
     make_with_open_level(&a);
-    word_put(a.bytes, WORD_HEADER_LOCK, 4);
+    put_word(a.bytes, KERNELSUN_AT_LOCK, 4);
     expect_refusal(&a, call_begin(3, 0, 2, 0), KERNELSUN_SHAPE);
     expect_refusal(&a, call_begin(1, 0, 2, 0), KERNELSUN_SHAPE);
     make_with_open_level(&a);
@@ -260,7 +261,7 @@ static void check_step_order(void)
     static area a;
     about("the order of what step refuses");
     make_with_open_level(&a);
-    word_put(a.bytes, thread_word(0, THREAD_C), 1);
+    put_word(a.bytes, kernelsun_at_thread(0, KERNELSUN_THREAD_C), 1);
     expect_refusal(&a, call_step(3), KERNELSUN_SHAPE);
     expect_refusal(&a, call_step(1), KERNELSUN_SHAPE);
     make_with_open_level(&a);
@@ -269,12 +270,12 @@ static void check_step_order(void)
     expect_refusal(&a, call_step(MOST), KERNELSUN_THREAD);
     expect_refusal(&a, call_step(0), KERNELSUN_IDLE);
     expect_refusal(&a, call_step(2), KERNELSUN_IDLE);
-    word_put(a.bytes, WORD_HEADER_LOCK, 3);
+    put_word(a.bytes, KERNELSUN_AT_LOCK, 3);
     expect_refusal(&a, call_step(1), KERNELSUN_BLOCKED);
-    word_put(a.bytes, WORD_HEADER_LOCK, 2);
+    put_word(a.bytes, KERNELSUN_AT_LOCK, 2);
     expect_refusal(&a, call_step(1), KERNELSUN_BLOCKED);
-    word_put(a.bytes, thread_word(1, THREAD_LINE), 2);
-    word_put(a.bytes, WORD_HEADERS_OWNER, 1);
+    put_word(a.bytes, kernelsun_at_thread(1, KERNELSUN_THREAD_LINE), 2);
+    put_word(a.bytes, KERNELSUN_AT_OWNER, 1);
     expect_refusal(&a, call_step(1), KERNELSUN_FAULT);
 }
 
@@ -283,10 +284,10 @@ static void expect_begun(uint32_t op, uint32_t n, uint32_t c, uint32_t kept_n, u
 {
     static area a;
     for (uint32_t thread = 0; thread < 3; thread += 2) {
-        const edit record[] = {{thread_word(thread, THREAD_OP), op},
-                               {thread_word(thread, THREAD_LINE), 1},
-                               {thread_word(thread, THREAD_N), kept_n},
-                               {thread_word(thread, THREAD_C), kept_c}};
+        const edit record[] = {{kernelsun_at_thread(thread, KERNELSUN_THREAD_OPERATION), op},
+                               {kernelsun_at_thread(thread, KERNELSUN_THREAD_LINE), 1},
+                               {kernelsun_at_thread(thread, KERNELSUN_THREAD_N), kept_n},
+                               {kernelsun_at_thread(thread, KERNELSUN_THREAD_C), kept_c}};
         make_with_open_level(&a);
         expect_changes(&a, call_begin(thread, op, n, c), KERNELSUN_WENT, 0, record, COUNT(record));
     }
@@ -308,26 +309,6 @@ static void check_begun(void)
 
 /* ---- whole operations ---- */
 
-typedef struct {
-    uint32_t steps, value;
-} run;
-
-/* Begins and steps to the end. Any number that isn't WENT or FINISHED fails. */
-static run whole(area *a, uint32_t thread, uint32_t op, uint32_t n, uint32_t c)
-{
-    call start = call_begin(thread, op, n, c), next = call_step(thread);
-    run r = {0, 0};
-    expect_equal("begin", kernelsun_number(through_door(&start, a)), KERNELSUN_WENT);
-    uint64_t given = 0;
-    while (kernelsun_number(given) == KERNELSUN_WENT && r.steps < 2 * LINES_MOST) {
-        given = through_door(&next, a);
-        r.steps++;
-    }
-    expect_equal("number at the end", kernelsun_number(given), KERNELSUN_FINISHED);
-    r.value = kernelsun_value(given);
-    return r;
-}
-
 static void expect_whole(area *a, uint32_t op, uint32_t n, uint32_t c, uint32_t steps,
                          uint32_t value)
 {
@@ -340,10 +321,10 @@ static void expect_words(const area *a, const uint32_t *words, size_t count)
 {
     expect_equal("words in the area", (uint32_t)(a->len / BYTES_IN_WORD), (uint32_t)count);
     for (size_t i = 0; i < count; i++) {
-        if (word_get(a->bytes, i) != words[i]) {
-            sizes s = sizes_of(a->bytes);
+        if (kernelsun_word(a->bytes, i) != words[i]) {
+            kernelsun_sizes s = kernelsun_sizes_of(a->bytes);
             print_word_name(&s, i);
-            expect_equal(" isn't as expected", word_get(a->bytes, i), words[i]);
+            expect_equal(" isn't as expected", kernelsun_word(a->bytes, i), words[i]);
         }
     }
 }
@@ -439,43 +420,27 @@ static const choice choices[] = {
 static void check_choices(void)
 {
     static area a;
-    sizes s = {1, 3, CHOICE_BLOCKS, 0};
+    kernelsun_sizes s = {1, 3, CHOICE_BLOCKS, 0};
     for (size_t i = 0; i < COUNT(choices); i++) {
         const choice *c = &choices[i];
         about(c->what);
         make_fresh(&a, s.t, s.n, s.p, c->d);
-        const edit at[] = {{WORD_HEADERS_OWNER, 1},
-                           {thread_word(0, THREAD_OP), KERNELSUN_LEVEL},
-                           {thread_word(0, THREAD_LINE), 3}};
+        const edit at[] = {{KERNELSUN_AT_OWNER, 1},
+                           {kernelsun_at_thread(0, KERNELSUN_THREAD_OPERATION), KERNELSUN_LEVEL},
+                           {kernelsun_at_thread(0, KERNELSUN_THREAD_LINE), 3}};
         apply(&a, at, COUNT(at));
         for (uint32_t p = 0; p < CHOICE_BLOCKS; p++) {
-            word_put(a.bytes, block_word(&s, p, BLOCK_HEADER), c->header[p]);
-            word_put(a.bytes, block_word(&s, p, BLOCK_WEAR), c->wear[p]);
+            put_word(a.bytes, kernelsun_at_block(&s, p, KERNELSUN_BLOCK_HEADER), c->header[p]);
+            put_word(a.bytes, kernelsun_at_block(&s, p, KERNELSUN_BLOCK_WEAR), c->wear[p]);
         }
-        const edit chosen[] = {{thread_word(0, THREAD_LINE), 4},
-                               {thread_word(0, THREAD_P), c->from},
-                               {thread_word(0, THREAD_Q), c->to}};
+        const edit chosen[] = {{kernelsun_at_thread(0, KERNELSUN_THREAD_LINE), 4},
+                               {kernelsun_at_thread(0, KERNELSUN_THREAD_P), c->from},
+                               {kernelsun_at_thread(0, KERNELSUN_THREAD_Q), c->to}};
         expect_changes(&a, call_step(0), KERNELSUN_WENT, 0, chosen, COUNT(chosen));
     }
 }
 
 /* ---- interleavings ---- */
-
-static void expect_steps(area *a, uint32_t thread, uint32_t count, uint32_t number)
-{
-    call c = call_step(thread);
-    for (uint32_t i = 0; i < count; i++) {
-        uint64_t given = through_door(&c, a);
-        expect_equal("number", kernelsun_number(given), number);
-        expect_equal("value", kernelsun_value(given), 0);
-    }
-}
-
-static void expect_begins(area *a, uint32_t thread, uint32_t op, uint32_t n, uint32_t c)
-{
-    call start = call_begin(thread, op, n, c);
-    expect_equal("begin", kernelsun_number(through_door(&start, a)), KERNELSUN_WENT);
-}
 
 static void check_second_reader_waits(void)
 {
@@ -540,9 +505,9 @@ static void check_leveller_waits_for_reader(void)
     make_levelling_case(&a, 2);
     static area two;
     make_fresh(&two, 2, 2, 3, 2);
-    memcpy(two.bytes + BYTES_IN_WORD * thread_word(2, 0),
-           a.bytes + BYTES_IN_WORD * thread_word(1, 0),
-           a.len - BYTES_IN_WORD * thread_word(1, 0));
+    memcpy(two.bytes + BYTES_IN_WORD * kernelsun_at_thread(2, 0),
+           a.bytes + BYTES_IN_WORD * kernelsun_at_thread(1, 0),
+           a.len - BYTES_IN_WORD * kernelsun_at_thread(1, 0));
     expect_begins(&two, 0, KERNELSUN_READ, 1, 0);
     expect_begins(&two, 1, KERNELSUN_LEVEL, 0, 0);
     expect_steps(&two, 0, 1, KERNELSUN_WENT);
@@ -564,7 +529,7 @@ static void check_leveller_waits_for_reader(void)
 static void check_largest_store(void)
 {
     static area a;
-    sizes s = {16, 256, 512, 1000};
+    kernelsun_sizes s = {16, 256, 512, 1000};
     about("the largest store: its last thread, numbers and blocks");
     make_fresh(&a, s.t, s.n, s.p, s.d);
     for (uint32_t n = 256; n-- > 0;) {
@@ -572,14 +537,14 @@ static void check_largest_store(void)
         expect_equal("steps", r.steps, 16);
     }
     for (uint32_t n = 0; n < 256; n++) {
-        expect_equal("map", word_get(a.bytes, map_word(&s, n)), 256 - n);
+        expect_equal("map", kernelsun_map(a.bytes, n), 255 - n);
         expect_equal("value", whole(&a, 7, KERNELSUN_READ, n, 0).value, n * 3 + 1);
     }
-    word_put(a.bytes, block_word(&s, 511, BLOCK_WEAR), 1000);
+    put_word(a.bytes, kernelsun_at_block(&s, 511, KERNELSUN_BLOCK_WEAR), 1000);
     expect_equal("level", whole(&a, 15, KERNELSUN_LEVEL, 0, 0).value, 1);
-    expect_equal("map of 255", word_get(a.bytes, map_word(&s, 255)), 512);
+    expect_equal("map of 255", kernelsun_map(a.bytes, 255), 511);
     expect_equal("value of 255", whole(&a, 0, KERNELSUN_READ, 255, 0).value, 766);
-    expect_equal("wear of 0", word_get(a.bytes, block_word(&s, 0, BLOCK_WEAR)), 1);
+    expect_equal("wear of 0", kernelsun_wear(a.bytes, 0), 1);
 }
 
 static void check_format_and_shape(void)

@@ -169,7 +169,7 @@ static void make_ready(area *a, const row *r)
     apply_used(a, r->setup);
     for (size_t i = 0; i < NEEDS_MOST; i++) {
         if (r->needs[i].kind == HELD) {
-            word_put(a->bytes, r->needs[i].word, MINE);
+            put_word(a->bytes, r->needs[i].word, MINE);
         }
     }
 }
@@ -181,12 +181,12 @@ static void check_goes(const row *r)
     after = a;
     apply_used(&after, r->changes);
     if (r->next != 0) {
-        word_put(after.bytes, LINE, r->next);
+        put_word(after.bytes, LINE, r->next);
         expect_area(&a, call_step(STEPPER), KERNELSUN_WENT, 0, &after);
         return;
     }
     for (size_t word = OP; word <= REG_H; word++) {
-        word_put(after.bytes, word, 0);
+        put_word(after.bytes, word, 0);
     }
     expect_area(&a, call_step(STEPPER), KERNELSUN_FINISHED, r->value, &after);
 }
@@ -195,7 +195,7 @@ static void check_refused_with(const row *r, uint32_t number, size_t word, uint3
 {
     area a;
     make_ready(&a, r);
-    word_put(a.bytes, word, value);
+    put_word(a.bytes, word, value);
     expect_refusal(&a, call_step(STEPPER), number);
 }
 
@@ -235,8 +235,8 @@ static void check_table_is_whole(void)
 {
     uint32_t lines = 0;
     about("the table has a row for each line");
-    for (uint32_t op = 1; op <= OPERATIONS; op++) {
-        for (uint32_t line = 1; line <= last_line(op); line++) {
+    for (uint32_t op = KERNELSUN_WRITE; op <= KERNELSUN_LEVEL; op++) {
+        for (uint32_t line = 1; line <= kernelsun_last_line(op); line++) {
             size_t i = 0;
             while (i < COUNT(rows) && (rows[i].op != op || rows[i].line != line)) {
                 i++;

@@ -21,8 +21,9 @@ void expect_changes(area *a, call c, uint32_t number, uint32_t value, const edit
                     size_t count);
 void expect_refusal(area *a, call c, uint32_t number);
 
-/* For what isn't a call: a step count, a word. */
+/* For what isn't a call: a step count, a word, a name. */
 void expect_equal(const char *what, uint32_t found, uint32_t wanted);
+void expect_text(const char *what, const char *found, const char *wanted);
 
 void apply(area *a, const edit *changes, size_t count);
 
@@ -31,6 +32,17 @@ void fill(area *a, size_t len, uint8_t byte);
 
 /* A fresh store by the document, made without the door. */
 void make_fresh(area *a, uint32_t t, uint32_t n, uint32_t p, uint32_t d);
+
+/* A begin that must go, and steps of which each must give that number and the value 0. */
+void expect_begins(area *a, uint32_t thread, uint32_t op, uint32_t n, uint32_t c);
+void expect_steps(area *a, uint32_t thread, uint32_t count, uint32_t number);
+
+typedef struct {
+    uint32_t steps, value;
+} run;
+
+/* Begins and steps to the end. Any number that isn't WENT or FINISHED fails. */
+run whole(area *a, uint32_t thread, uint32_t op, uint32_t n, uint32_t c);
 
 /* Tells how much was expected, and gives the exit status 0. */
 int all_met(const char *program);

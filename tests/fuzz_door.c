@@ -1,6 +1,7 @@
 /*
  * Compares the door with the reference, call by call: number, value and every
- * byte of the area. Areas come from five sources: grown from fresh under random
+ * byte of the area; and what kernelsun_view.h says of the area with whether a
+ * step was blocked. Areas come from five sources: grown from fresh under random
  * schedules; well formed but made at random, with locks, owners, lines and
  * registers in all combinations; damaged in one word; of odd lengths; and any
  * of these with hostile arguments.
@@ -24,8 +25,6 @@
 #define SEED_DEFAULT 1990u
 #define CALLS_DEFAULT 1200000u
 #define SECONDS_DEFAULT 50u
-
-#define WORD_MOST 0xffffffffu
 
 static chance dice;
 static unsigned long long seed, calls_made;
@@ -51,17 +50,17 @@ static void copy_area(area *to, const area *from)
 
 static void print_area(const area *a)
 {
-    sizes s = {0, 0, 0, 0};
+    kernelsun_sizes s = {0, 0, 0, 0};
     size_t words = a->len / BYTES_IN_WORD;
-    if (words >= HEAD_WORDS) {
-        s = sizes_of(a->bytes);
+    if (words >= KERNELSUN_HEAD_WORDS) {
+        s = kernelsun_sizes_of(a->bytes);
     }
     printf("area before, words that aren't 0:\n");
     for (size_t i = 0; i < words; i++) {
-        if (word_get(a->bytes, i) != 0) {
+        if (kernelsun_word(a->bytes, i) != 0) {
             printf("  word %u, ", (unsigned)i);
             print_word_name(&s, i);
-            printf(": %u\n", (unsigned)word_get(a->bytes, i));
+            printf(": %u\n", (unsigned)kernelsun_word(a->bytes, i));
         }
     }
 }
@@ -82,6 +81,24 @@ static void fail(const char *why, const call *c, uint64_t door, uint64_t referen
     exit(1);
 }
 
+/* Whether the lock that a thread's next line takes, by the view, is held. */
+static int seen_held(const area *a, uint32_t thread)
+{
+    uint32_t lock = kernelsun_next_lock(a->bytes, thread);
+    return kernelsun_lock_holder(a->bytes, lock) != KERNELSUN_NONE;
+}
+
+/* What the view says of the area before a begin or a step agrees with what the call gave. */
+static int view_agrees(const call *c, uint32_t number, const area *before)
+{
+    if (c->which == CALL_FORMAT || number == KERNELSUN_SHAPE) {
+        return 1;
+    }
+    return kernelsun_viewable(before->bytes, before->len) &&
+           (c->which == CALL_BEGIN ||
+            seen_held(before, c->argument[0]) == (number == KERNELSUN_BLOCKED));
+}
+
 /* Makes the call on both, compares, and leaves the area after it in `now`. */
 static uint64_t compare(call c)
 {
@@ -93,6 +110,9 @@ static uint64_t compare(call c)
     calls_made++;
     if (door != reference || memcmp(now.bytes, reference_after.bytes, now.len) != 0) {
         fail("door and reference differ", &c, door, reference, &before, &now, &reference_after);
+    }
+    if (!view_agrees(&c, kernelsun_number(door), &before)) {
+        fail("the view says otherwise", &c, door, reference, &before, &now, &reference_after);
     }
     coverage_count(&c, door, &before, &now);
     return door;
@@ -107,9 +127,10 @@ static uint32_t some_distance(void)
 }
 
 /* Mostly small, since few words meet more combinations; sometimes of any size. */
-static sizes some_sizes(void)
+static kernelsun_sizes some_sizes(void)
 {
-    sizes s = {chance_between(&dice, 1, 4), chance_between(&dice, 1, 4), 0, some_distance()};
+    kernelsun_sizes s = {chance_between(&dice, 1, 4), chance_between(&dice, 1, 4), 0,
+                         some_distance()};
     uint32_t spare = 4;
     if (chance_one_in(&dice, 100)) {
         s.t = chance_between(&dice, 1, KERNELSUN_THREADS_MOST);
@@ -135,13 +156,13 @@ static void fill_at_random(area *a, size_t len)
     }
 }
 
-static void format_now(sizes s)
+static void format_now(kernelsun_sizes s)
 {
-    fill_at_random(&now, area_length(&s));
+    fill_at_random(&now, KERNELSUN_LENGTH(s.t, s.n, s.p));
     compare(call_format(s.t, s.n, s.p, s.d));
 }
 
-static call some_begin(const sizes *s, uint32_t thread)
+static call some_begin(const kernelsun_sizes *s, uint32_t thread)
 {
     uint32_t n = chance_below(&dice, s->n);
     uint32_t c = chance_one_in(&dice, 4) ? chance_hostile(&dice) : chance_word(&dice);
@@ -172,30 +193,28 @@ static void manager_does(uint32_t thread, uint32_t op, uint32_t line, uint32_t n
 /* A step in a grown store: never FAULT, and a read gives what the manager gives. */
 static void step_grown(uint32_t thread)
 {
-    uint32_t before[THREAD_WORDS];
-    for (size_t field = 0; field < THREAD_WORDS; field++) {
-        before[field] = word_get(now.bytes, thread_word(thread, field));
-    }
+    uint32_t op = kernelsun_operation(now.bytes, thread), line = kernelsun_line(now.bytes, thread);
+    uint32_t n = kernelsun_register_n(now.bytes, thread);
+    uint32_t content = kernelsun_register_c(now.bytes, thread);
     call c = call_step(thread);
     uint64_t r = compare(c);
     if (kernelsun_number(r) == KERNELSUN_FAULT) {
         fail("FAULT in a grown store", &c, r, r, &now, &now, &now);
     }
     if (kernelsun_number(r) == KERNELSUN_WENT) {
-        manager_does(thread, before[THREAD_OP], before[THREAD_LINE], before[THREAD_N],
-                     before[THREAD_C]);
+        manager_does(thread, op, line, n, content);
     }
-    if (kernelsun_number(r) == KERNELSUN_FINISHED && before[THREAD_OP] == KERNELSUN_READ &&
+    if (kernelsun_number(r) == KERNELSUN_FINISHED && op == KERNELSUN_READ &&
         kernelsun_value(r) != manager.read[thread]) {
         fail("a read doesn't give what the atomic manager gives", &c, r, r, &now, &now, &now);
     }
 }
 
 /* One entry of a random schedule. */
-static void grow_once(const sizes *s)
+static void grow_once(const kernelsun_sizes *s)
 {
     uint32_t thread = chance_below(&dice, s->t);
-    int idle = word_get(now.bytes, thread_word(thread, THREAD_OP)) == 0;
+    int idle = kernelsun_operation(now.bytes, thread) == 0;
     if (idle != chance_one_in(&dice, 50)) {
         compare(some_begin(s, thread));
     } else {
@@ -205,7 +224,7 @@ static void grow_once(const sizes *s)
 
 static void grow(uint32_t entries)
 {
-    sizes s = some_sizes();
+    kernelsun_sizes s = some_sizes();
     format_now(s);
     memset(&manager, 0, sizeof manager);
     for (uint32_t i = 0; i < entries; i++) {
@@ -214,11 +233,11 @@ static void grow(uint32_t entries)
 }
 
 /* Steps all open threads in turn. Gives how many there were. */
-static uint32_t step_all_open(const sizes *s)
+static uint32_t step_all_open(const kernelsun_sizes *s)
 {
     uint32_t open = 0;
     for (uint32_t thread = 0; thread < s->t; thread++) {
-        if (word_get(now.bytes, thread_word(thread, THREAD_OP)) != 0) {
+        if (kernelsun_operation(now.bytes, thread) != 0) {
             step_grown(thread);
             open++;
         }
@@ -234,7 +253,7 @@ static uint32_t step_all_open(const sizes *s)
 static void grow_and_finish(uint32_t entries)
 {
     grow(entries);
-    sizes s = sizes_of(now.bytes);
+    kernelsun_sizes s = kernelsun_sizes_of(now.bytes);
     uint32_t rounds = LINES_MOST * s.t;
     while (step_all_open(&s) != 0) {
         if (rounds-- == 0) {
@@ -247,7 +266,7 @@ static void grow_and_finish(uint32_t entries)
 /* ---- Made at random ---- */
 
 /* A lock or owner: free, the thread that will step, or anyone. */
-static uint32_t some_holder(const sizes *s, uint32_t thread)
+static uint32_t some_holder(const kernelsun_sizes *s, uint32_t thread)
 {
     switch (chance_below(&dice, 5)) {
     case 0: case 1: return 0;
@@ -257,21 +276,21 @@ static uint32_t some_holder(const sizes *s, uint32_t thread)
 }
 
 /* Close to each other, so that there are ties and distances just met, or at an end. */
-static uint32_t some_wear(const sizes *s, uint32_t around)
+static uint32_t some_wear(const kernelsun_sizes *s, uint32_t around)
 {
     switch (chance_below(&dice, 8)) {
-    case 0: return WORD_MOST;
+    case 0: return KERNELSUN_WEAR_MOST;
     case 1: return chance_hostile(&dice);
     case 2: return around + s->d;
     default: return around + chance_below(&dice, 3);
     }
 }
 
-static uint32_t some_ground_of_wear(const sizes *s)
+static uint32_t some_ground_of_wear(const kernelsun_sizes *s)
 {
     switch (chance_below(&dice, 3)) {
-    case 0: return WORD_MOST - s->d - chance_below(&dice, 3);
-    case 1: return WORD_MOST - chance_below(&dice, 3);
+    case 0: return KERNELSUN_WEAR_MOST - s->d - chance_below(&dice, 3);
+    case 1: return KERNELSUN_WEAR_MOST - chance_below(&dice, 3);
     default: return chance_below(&dice, 3);
     }
 }
@@ -280,69 +299,72 @@ static uint32_t some_ground_of_wear(const sizes *s)
 static void put_line(uint32_t thread)
 {
     uint32_t op = chance_between(&dice, KERNELSUN_WRITE, KERNELSUN_LEVEL);
-    uint32_t line = chance_between(&dice, 1, last_line(op));
+    uint32_t line = chance_between(&dice, 1, kernelsun_last_line(op));
     if (chance_one_in(&dice, 8)) {
         op = KERNELSUN_LEVEL;
         line = 3;
     }
-    word_put(now.bytes, thread_word(thread, THREAD_OP), op);
-    word_put(now.bytes, thread_word(thread, THREAD_LINE), line);
+    put_word(now.bytes, kernelsun_at_thread(thread, KERNELSUN_THREAD_OPERATION), op);
+    put_word(now.bytes, kernelsun_at_thread(thread, KERNELSUN_THREAD_LINE), line);
 }
 
-static void make_thread(const sizes *s, uint32_t thread, int open)
+static void make_thread(const kernelsun_sizes *s, uint32_t thread, int open)
 {
-    for (size_t field = 0; field < THREAD_WORDS; field++) {
-        word_put(now.bytes, thread_word(thread, field), 0);
+    for (size_t field = 0; field < KERNELSUN_THREAD_WORDS; field++) {
+        put_word(now.bytes, kernelsun_at_thread(thread, field), 0);
     }
     if (!open) {
         return;
     }
     put_line(thread);
-    word_put(now.bytes, thread_word(thread, THREAD_N), chance_below(&dice, s->n));
-    word_put(now.bytes, thread_word(thread, THREAD_C), chance_hostile(&dice));
-    word_put(now.bytes, thread_word(thread, THREAD_P), chance_below(&dice, s->p));
-    word_put(now.bytes, thread_word(thread, THREAD_Q), chance_below(&dice, s->p));
-    word_put(now.bytes, thread_word(thread, THREAD_H), chance_between(&dice, 0, s->n));
+    put_word(now.bytes, kernelsun_at_thread(thread, KERNELSUN_THREAD_N), chance_below(&dice, s->n));
+    put_word(now.bytes, kernelsun_at_thread(thread, KERNELSUN_THREAD_C), chance_hostile(&dice));
+    put_word(now.bytes, kernelsun_at_thread(thread, KERNELSUN_THREAD_P), chance_below(&dice, s->p));
+    put_word(now.bytes, kernelsun_at_thread(thread, KERNELSUN_THREAD_Q), chance_below(&dice, s->p));
+    put_word(now.bytes, kernelsun_at_thread(thread, KERNELSUN_THREAD_H),
+             chance_between(&dice, 0, s->n));
 }
 
 /* All blocks are free in one area of eight, and none is in another one. */
-static void make_blocks(const sizes *s, uint32_t thread)
+static void make_blocks(const kernelsun_sizes *s, uint32_t thread)
 {
     uint32_t ground = some_ground_of_wear(s), kind = chance_below(&dice, 8);
     for (uint32_t p = 0; p < s->p; p++) {
         uint32_t used = kind == 0 ? 0 : kind == 1 ? 1 : chance_below(&dice, 2);
         uint32_t header = used ? chance_between(&dice, 1, s->n) : 0;
-        word_put(now.bytes, block_word(s, p, BLOCK_HEADER), header);
-        word_put(now.bytes, block_word(s, p, BLOCK_CONTENT), chance_hostile(&dice));
-        word_put(now.bytes, block_word(s, p, BLOCK_WEAR), some_wear(s, ground));
-        word_put(now.bytes, block_word(s, p, BLOCK_OWNER), some_holder(s, thread));
+        put_word(now.bytes, kernelsun_at_block(s, p, KERNELSUN_BLOCK_HEADER), header);
+        put_word(now.bytes, kernelsun_at_block(s, p, KERNELSUN_BLOCK_CONTENT),
+                 chance_hostile(&dice));
+        put_word(now.bytes, kernelsun_at_block(s, p, KERNELSUN_BLOCK_WEAR), some_wear(s, ground));
+        put_word(now.bytes, kernelsun_at_block(s, p, KERNELSUN_BLOCK_OWNER),
+                 some_holder(s, thread));
     }
 }
 
 /* A well-formed area in which that thread has open work. */
-static void make_now(const sizes *s, uint32_t thread)
+static void make_now(const kernelsun_sizes *s, uint32_t thread)
 {
-    now.len = area_length(s);
-    word_put(now.bytes, WORD_T, s->t);
-    word_put(now.bytes, WORD_N, s->n);
-    word_put(now.bytes, WORD_P, s->p);
-    word_put(now.bytes, WORD_D, s->d);
-    word_put(now.bytes, WORD_HEADER_LOCK, some_holder(s, thread));
-    word_put(now.bytes, WORD_HEADERS_OWNER, some_holder(s, thread));
+    now.len = KERNELSUN_LENGTH(s->t, s->n, s->p);
+    put_word(now.bytes, KERNELSUN_AT_T, s->t);
+    put_word(now.bytes, KERNELSUN_AT_N, s->n);
+    put_word(now.bytes, KERNELSUN_AT_P, s->p);
+    put_word(now.bytes, KERNELSUN_AT_D, s->d);
+    put_word(now.bytes, KERNELSUN_AT_LOCK, some_holder(s, thread));
+    put_word(now.bytes, KERNELSUN_AT_OWNER, some_holder(s, thread));
     for (uint32_t t = 0; t < s->t; t++) {
         make_thread(s, t, t == thread || chance_one_in(&dice, 2));
     }
     for (uint32_t n = 0; n < s->n; n++) {
         uint32_t entry = chance_one_in(&dice, 3) ? 0 : chance_between(&dice, 0, s->p);
-        word_put(now.bytes, map_word(s, n), entry);
-        word_put(now.bytes, lock_word(s, n), some_holder(s, thread));
+        put_word(now.bytes, kernelsun_at_map(s, n), entry);
+        put_word(now.bytes, kernelsun_at_lock(s, n), some_holder(s, thread));
     }
     make_blocks(s, thread);
 }
 
 static void step_made_areas(uint32_t count)
 {
-    sizes s = some_sizes();
+    kernelsun_sizes s = some_sizes();
     for (uint32_t i = 0; i < count; i++) {
         uint32_t thread = chance_below(&dice, s.t);
         make_now(&s, thread);
@@ -356,18 +378,18 @@ static void step_made_areas(uint32_t count)
 
 /* ---- Damage, odd lengths, hostile arguments ---- */
 
-static void make_any(sizes *s)
+static void make_any(kernelsun_sizes *s)
 {
     if (chance_one_in(&dice, 2)) {
         *s = some_sizes();
         make_now(s, chance_below(&dice, s->t));
     } else {
         grow(chance_below(&dice, 60));
-        *s = sizes_of(now.bytes);
+        *s = kernelsun_sizes_of(now.bytes);
     }
 }
 
-static void call_all(const sizes *s)
+static void call_all(const kernelsun_sizes *s)
 {
     compare(call_step(chance_below(&dice, s->t)));
     compare(some_begin(s, chance_below(&dice, s->t)));
@@ -377,15 +399,16 @@ static void call_all(const sizes *s)
 static void damage(uint32_t count)
 {
     static area whole;
-    sizes s;
+    kernelsun_sizes s;
     make_any(&s);
     copy_area(&whole, &now);
     for (uint32_t i = 0; i < count; i++) {
         size_t words = now.len / BYTES_IN_WORD;
-        size_t word = chance_below(&dice, chance_one_in(&dice, 3) ? HEAD_WORDS : (uint32_t)words);
-        uint32_t old = word_get(now.bytes, word);
+        size_t word =
+            chance_below(&dice, chance_one_in(&dice, 3) ? KERNELSUN_HEAD_WORDS : (uint32_t)words);
+        uint32_t old = kernelsun_word(now.bytes, word);
         uint32_t near_by = old + chance_between(&dice, 0, 2) - 1;
-        word_put(now.bytes, word, chance_one_in(&dice, 2) ? near_by : chance_hostile(&dice));
+        put_word(now.bytes, word, chance_one_in(&dice, 2) ? near_by : chance_hostile(&dice));
         call_all(&s);
         copy_area(&now, &whole);
     }
@@ -404,7 +427,7 @@ static size_t some_length(size_t exact)
 static void odd_lengths(uint32_t count)
 {
     static area whole;
-    sizes s;
+    kernelsun_sizes s;
     make_any(&s);
     copy_area(&whole, &now);
     for (uint32_t i = 0; i < count; i++) {
@@ -417,7 +440,7 @@ static void odd_lengths(uint32_t count)
 
 static void hostile_arguments(uint32_t count)
 {
-    sizes s;
+    kernelsun_sizes s;
     make_any(&s);
     for (uint32_t i = 0; i < count; i++) {
         int good = chance_one_in(&dice, 2);
@@ -434,10 +457,10 @@ static void hostile_arguments(uint32_t count)
 static void hostile_formats(uint32_t count)
 {
     for (uint32_t i = 0; i < count; i++) {
-        sizes s = some_sizes();
+        kernelsun_sizes s = some_sizes();
         uint32_t *field[] = {&s.t, &s.n, &s.p, &s.d};
         *field[chance_below(&dice, 4)] = chance_hostile(&dice);
-        size_t len = area_length(&s);
+        size_t len = KERNELSUN_LENGTH(s.t, s.n, s.p);
         if (len > AREA_ROOM || chance_one_in(&dice, 4)) {
             len = chance_below(&dice, 400);
         }

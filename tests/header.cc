@@ -1,8 +1,10 @@
-// The header as a C++ programmer meets it: it compiles, its length macro sizes
-// an array, and its functions link against the C library.
+// The headers as a C++ programmer meets them: they compile, the length macro
+// sizes an array, the functions link against the C library, and the view reads
+// what they left.
 #include <stdio.h>
+#include <string.h>
 
-#include "kernelsun.h"
+#include "kernelsun_view.h"
 
 static uint8_t area[KERNELSUN_LENGTH(2, 1, 2)];
 
@@ -17,6 +19,12 @@ int main()
         printf("FAILED: the door doesn't work from C++\n");
         return 1;
     }
-    printf("header: strict C99 and C++, links from both\n");
+    if (!kernelsun_viewable(area, sizeof area) || kernelsun_operation(area, 1) != KERNELSUN_READ ||
+        kernelsun_map(area, 0) != KERNELSUN_NONE ||
+        strcmp(kernelsun_thread_label(area, 1), "R1") != 0) {
+        printf("FAILED: the view doesn't work from C++\n");
+        return 1;
+    }
+    printf("header: both are strict C99 and C++ and link; a dropped result is refused\n");
     return 0;
 }

@@ -13,9 +13,6 @@
 
 enum { PAGE = 4096, ROOM_PAGES = 4, ROOM = PAGE * ROOM_PAGES, GUARD_BYTES = 64, GUARD = 0xa5 };
 
-/* Up against the upper page, the lower page, and three odd addresses. */
-enum { PLACE_UPPER, PLACE_LOWER, PLACE_ODD, PLACES = PLACE_ODD + 3 };
-
 call call_format(uint32_t t, uint32_t n, uint32_t p, uint32_t d)
 {
     call c = {CALL_FORMAT, {t, n, p, d}};
@@ -46,10 +43,17 @@ static uint8_t *make_room(void)
     return pages + PAGE;
 }
 
-static uint8_t *place_in(uint8_t *room, size_t len)
+static uint8_t *the_room(void)
 {
-    static unsigned turn;
-    unsigned place = turn++ % PLACES;
+    static uint8_t *room;
+    if (room == NULL) {
+        room = make_room();
+    }
+    return room;
+}
+
+static uint8_t *place_in(uint8_t *room, size_t len, unsigned place)
+{
     if (place == PLACE_UPPER) {
         return room + ROOM - len;
     }
@@ -90,11 +94,8 @@ static uint64_t make_call(const call *c, uint8_t *at, size_t len)
 
 uint64_t through_door(const call *c, area *a)
 {
-    static uint8_t *room;
-    if (room == NULL) {
-        room = make_room();
-    }
-    uint8_t *at = place_in(room, a->len);
+    static unsigned turn;
+    uint8_t *room = the_room(), *at = place_in(room, a->len, turn++ % PLACES);
     size_t before = guards(room, at), after = guards(at + a->len, room + ROOM);
     memset(at - before, GUARD, before);
     memset(at + a->len, GUARD, after);
@@ -106,34 +107,14 @@ uint64_t through_door(const call *c, area *a)
     return r;
 }
 
-/* ---- Names ---- */
-
-label line_label(uint32_t op, uint32_t line)
+const uint8_t *placed(const area *a, unsigned place)
 {
-    static const char letters[] = "?WRUL";
-    label l;
-    snprintf(l.text, sizeof l.text, "%c%u", op <= OPERATIONS ? letters[op] : '?',
-             (unsigned)line % 1000u);
-    return l;
+    uint8_t *at = place_in(the_room(), a->len, place);
+    memcpy(at, a->bytes, a->len);
+    return at;
 }
 
-const char *number_name(uint32_t number)
-{
-    switch (number) {
-    case KERNELSUN_WENT: return "WENT";
-    case KERNELSUN_FINISHED: return "FINISHED";
-    case KERNELSUN_BLOCKED: return "BLOCKED";
-    case KERNELSUN_SHAPE: return "SHAPE";
-    case KERNELSUN_THREAD: return "THREAD";
-    case KERNELSUN_BUSY: return "BUSY";
-    case KERNELSUN_IDLE: return "IDLE";
-    case KERNELSUN_LOGICAL: return "LOGICAL";
-    case KERNELSUN_OPERATION: return "OPERATION";
-    case KERNELSUN_FAULT: return "FAULT";
-    case KERNELSUN_LIMITS: return "LIMITS";
-    default: return "no number of the table";
-    }
-}
+/* ---- Printing ---- */
 
 void print_call(const call *c)
 {
@@ -153,7 +134,7 @@ void print_call(const call *c)
 
 void print_result(uint64_t r)
 {
-    printf("%u (%s) with %u", (unsigned)kernelsun_number(r), number_name(kernelsun_number(r)),
+    printf("%u (%s) with %u", (unsigned)kernelsun_number(r), kernelsun_name(kernelsun_number(r)),
            (unsigned)kernelsun_value(r));
 }
 
@@ -163,21 +144,22 @@ static void print_record_word(const char *what, const char *const names[], size_
     printf("%s %u %s", what, (unsigned)(offset / words), names[offset % words]);
 }
 
-void print_word_name(const sizes *s, size_t index)
+void print_word_name(const kernelsun_sizes *s, size_t index)
 {
     static const char *const head[] = {"T", "N", "P", "D", "header lock", "headers' owner"};
     static const char *const thread[] = {"operation", "line", "n", "c", "p", "q", "h"};
     static const char *const block[] = {"header", "content", "wear", "owner"};
-    if (index < HEAD_WORDS) {
+    if (index < KERNELSUN_HEAD_WORDS) {
         printf("%s", head[index]);
-    } else if (index < map_word(s, 0)) {
-        print_record_word("thread", thread, THREAD_WORDS, index - HEAD_WORDS);
-    } else if (index < lock_word(s, 0)) {
-        printf("map %u", (unsigned)(index - map_word(s, 0)));
-    } else if (index < block_word(s, 0, 0)) {
-        printf("block lock %u", (unsigned)(index - lock_word(s, 0)));
+    } else if (index < kernelsun_at_map(s, 0)) {
+        print_record_word("thread", thread, KERNELSUN_THREAD_WORDS, index - KERNELSUN_HEAD_WORDS);
+    } else if (index < kernelsun_at_lock(s, 0)) {
+        printf("map %u", (unsigned)(index - kernelsun_at_map(s, 0)));
+    } else if (index < kernelsun_at_block(s, 0, 0)) {
+        printf("block lock %u", (unsigned)(index - kernelsun_at_lock(s, 0)));
     } else {
-        print_record_word("block", block, BLOCK_WORDS, index - block_word(s, 0, 0));
+        print_record_word("block", block, KERNELSUN_BLOCK_WORDS,
+                          index - kernelsun_at_block(s, 0, 0));
     }
 }
 
@@ -185,17 +167,17 @@ void print_differences(const area *before, const char *left_name, const area *le
                        const char *right_name, const area *right)
 {
     size_t words = left->len / BYTES_IN_WORD;
-    sizes s = {0, 0, 0, 0};
-    if (words >= HEAD_WORDS) {
-        s = sizes_of(right->bytes);
+    kernelsun_sizes s = {0, 0, 0, 0};
+    if (words >= KERNELSUN_HEAD_WORDS) {
+        s = kernelsun_sizes_of(right->bytes);
     }
     for (size_t i = 0; i < words; i++) {
-        uint32_t l = word_get(left->bytes, i), r = word_get(right->bytes, i);
+        uint32_t l = kernelsun_word(left->bytes, i), r = kernelsun_word(right->bytes, i);
         if (l != r) {
             printf("  word %u, ", (unsigned)i);
             print_word_name(&s, i);
-            printf(": before %u, %s %u, %s %u\n", (unsigned)word_get(before->bytes, i), left_name,
-                   (unsigned)l, right_name, (unsigned)r);
+            printf(": before %u, %s %u, %s %u\n", (unsigned)kernelsun_word(before->bytes, i),
+                   left_name, (unsigned)l, right_name, (unsigned)r);
         }
     }
     for (size_t i = words * BYTES_IN_WORD; i < left->len; i++) {

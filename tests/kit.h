@@ -1,7 +1,7 @@
 /*
  * What the tests of the door share: a call as a thing that can be kept and
- * printed, the way through the door with guards around the area, and names for
- * numbers and words so that a failure can be read.
+ * printed, the way through the door with guards around the area, and areas in
+ * words, so that a failure can be read.
  */
 #ifndef KERNELSUN_TESTS_KIT_H
 #define KERNELSUN_TESTS_KIT_H
@@ -9,11 +9,14 @@
 #include <stddef.h>
 #include <stdint.h>
 
-#include "kernelsun.h"
-#include "layout.h"
+#include "kernelsun_view.h"
+#include "put_word.h"
 
 /* Room for the longest area and for lengths well beyond it. */
 enum { AREA_ROOM = 16000 };
+
+/* Lines of the longest operation, levelling. */
+enum { LINES_MOST = 18 };
 
 typedef struct {
     uint8_t bytes[AREA_ROOM];
@@ -31,28 +34,25 @@ call call_format(uint32_t t, uint32_t n, uint32_t p, uint32_t d);
 call call_begin(uint32_t thread, uint32_t op, uint32_t n, uint32_t c);
 call call_step(uint32_t thread);
 
+/* Up against a page that cannot be touched at its end or its start, and three odd addresses. */
+enum { PLACE_UPPER, PLACE_LOWER, PLACE_ODD, PLACES = PLACE_ODD + 3 };
+
 /*
  * Makes the call through the door. The area is put at a place that changes from
- * call to call: up against a page that cannot be touched at its end or its
- * start, or at an odd address. Bytes around it are checked afterwards; a
- * changed one ends the test program.
+ * call to call. Bytes around it are checked afterwards; a changed one ends the
+ * test program.
  */
 uint64_t through_door(const call *c, area *a);
 
-/* A line's label as in document 01: "W5", "L18". */
-typedef struct {
-    char text[8];
-} label;
-label line_label(uint32_t op, uint32_t line);
-
-const char *number_name(uint32_t number);
+/* The area's bytes at that place, to be read until the next call through the door or to here. */
+const uint8_t *placed(const area *a, unsigned place);
 
 /* "step(thread 1)" and so on, and "FINISHED with 7", without a newline. */
 void print_call(const call *c);
 void print_result(uint64_t r);
 
 /* The word of that index by its name, for an area with those sizes. */
-void print_word_name(const sizes *s, size_t index);
+void print_word_name(const kernelsun_sizes *s, size_t index);
 
 /*
  * The words in which two areas of one length differ, with what stood there

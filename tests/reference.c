@@ -12,10 +12,8 @@
 
 #include <string.h>
 
-#include "kernelsun.h"
-#include "layout.h"
-
-#define WORD_MOST 0xffffffffu
+#include "kernelsun_view.h"
+#include "put_word.h"
 
 static uint64_t result(uint32_t number, uint32_t value)
 {
@@ -29,7 +27,7 @@ static int within(uint32_t value, uint32_t least, uint32_t most)
     return value >= least && value <= most;
 }
 
-static int sizes_in_limits(const sizes *s)
+static int sizes_in_limits(const kernelsun_sizes *s)
 {
     return within(s->t, KERNELSUN_THREADS_LEAST, KERNELSUN_THREADS_MOST) &&
            within(s->n, KERNELSUN_LOGICAL_LEAST, KERNELSUN_LOGICAL_MOST) &&
@@ -39,40 +37,42 @@ static int sizes_in_limits(const sizes *s)
 
 static int idle_record_well_formed(const uint8_t *area, uint32_t thread)
 {
-    for (size_t field = 0; field < THREAD_WORDS; field++) {
-        if (word_get(area, thread_word(thread, field)) != 0) {
+    for (size_t field = 0; field < KERNELSUN_THREAD_WORDS; field++) {
+        if (kernelsun_of_thread(area, thread, field) != 0) {
             return 0;
         }
     }
     return 1;
 }
 
-static int thread_record_well_formed(const uint8_t *area, const sizes *s, uint32_t thread)
+static int thread_record_well_formed(const uint8_t *area, const kernelsun_sizes *s, uint32_t thread)
 {
-    uint32_t op = word_get(area, thread_word(thread, THREAD_OP));
+    uint32_t op = kernelsun_of_thread(area, thread, KERNELSUN_THREAD_OPERATION);
     if (op == 0) {
         return idle_record_well_formed(area, thread);
     }
-    return op <= OPERATIONS &&
-           within(word_get(area, thread_word(thread, THREAD_LINE)), 1, last_line(op)) &&
-           word_get(area, thread_word(thread, THREAD_N)) < s->n &&
-           word_get(area, thread_word(thread, THREAD_P)) < s->p &&
-           word_get(area, thread_word(thread, THREAD_Q)) < s->p &&
-           word_get(area, thread_word(thread, THREAD_H)) <= s->n;
+    return within(op, KERNELSUN_WRITE, KERNELSUN_LEVEL) &&
+           within(kernelsun_of_thread(area, thread, KERNELSUN_THREAD_LINE), 1,
+                  kernelsun_last_line(op)) &&
+           kernelsun_of_thread(area, thread, KERNELSUN_THREAD_N) < s->n &&
+           kernelsun_of_thread(area, thread, KERNELSUN_THREAD_P) < s->p &&
+           kernelsun_of_thread(area, thread, KERNELSUN_THREAD_Q) < s->p &&
+           kernelsun_of_thread(area, thread, KERNELSUN_THREAD_H) <= s->n;
 }
 
-static int logical_block_well_formed(const uint8_t *area, const sizes *s, uint32_t n)
+static int logical_block_well_formed(const uint8_t *area, const kernelsun_sizes *s, uint32_t n)
 {
-    return word_get(area, map_word(s, n)) <= s->p && word_get(area, lock_word(s, n)) <= s->t;
+    return kernelsun_word(area, kernelsun_at_map(s, n)) <= s->p &&
+           kernelsun_word(area, kernelsun_at_lock(s, n)) <= s->t;
 }
 
-static int physical_block_well_formed(const uint8_t *area, const sizes *s, uint32_t p)
+static int physical_block_well_formed(const uint8_t *area, const kernelsun_sizes *s, uint32_t p)
 {
-    return word_get(area, block_word(s, p, BLOCK_HEADER)) <= s->n &&
-           word_get(area, block_word(s, p, BLOCK_OWNER)) <= s->t;
+    return kernelsun_word(area, kernelsun_at_block(s, p, KERNELSUN_BLOCK_HEADER)) <= s->n &&
+           kernelsun_word(area, kernelsun_at_block(s, p, KERNELSUN_BLOCK_OWNER)) <= s->t;
 }
 
-static int records_well_formed(const uint8_t *area, const sizes *s)
+static int records_well_formed(const uint8_t *area, const kernelsun_sizes *s)
 {
     for (uint32_t thread = 0; thread < s->t; thread++) {
         if (!thread_record_well_formed(area, s, thread)) {
@@ -94,32 +94,32 @@ static int records_well_formed(const uint8_t *area, const sizes *s)
 
 static int well_formed(const uint8_t *area, size_t len)
 {
-    if (len < HEAD_WORDS * BYTES_IN_WORD) {
+    if (len < KERNELSUN_HEAD_WORDS * BYTES_IN_WORD) {
         return 0;
     }
-    sizes s = sizes_of(area);
-    return sizes_in_limits(&s) && len == area_length(&s) &&
-           word_get(area, WORD_HEADER_LOCK) <= s.t && word_get(area, WORD_HEADERS_OWNER) <= s.t &&
-           records_well_formed(area, &s);
+    kernelsun_sizes s = kernelsun_sizes_of(area);
+    return sizes_in_limits(&s) && len == KERNELSUN_LENGTH(s.t, s.n, s.p) &&
+           kernelsun_word(area, KERNELSUN_AT_LOCK) <= s.t &&
+           kernelsun_word(area, KERNELSUN_AT_OWNER) <= s.t && records_well_formed(area, &s);
 }
 
 /* ---- One thread at one of its lines ---- */
 
 typedef struct {
     uint8_t *area;
-    sizes s;
+    kernelsun_sizes s;
     uint32_t thread;
     uint32_t next; /* the line that follows if this one goes */
 } machine;
 
 static uint32_t reg(const machine *m, size_t field)
 {
-    return word_get(m->area, thread_word(m->thread, field));
+    return kernelsun_word(m->area, kernelsun_at_thread(m->thread, field));
 }
 
 static void set_reg(machine *m, size_t field, uint32_t value)
 {
-    word_put(m->area, thread_word(m->thread, field), value);
+    put_word(m->area, kernelsun_at_thread(m->thread, field), value);
 }
 
 /* What a lock or owner word holds when it is this thread's. */
@@ -130,32 +130,37 @@ static uint32_t mine(const machine *m)
 
 static int is_mine(const machine *m, size_t word)
 {
-    return word_get(m->area, word) == mine(m);
+    return kernelsun_word(m->area, word) == mine(m);
 }
 
 static uint32_t block(const machine *m, uint32_t p, size_t field)
 {
-    return word_get(m->area, block_word(&m->s, p, field));
+    return kernelsun_word(m->area, kernelsun_at_block(&m->s, p, field));
 }
 
 static void set_block(machine *m, uint32_t p, size_t field, uint32_t value)
 {
-    word_put(m->area, block_word(&m->s, p, field), value);
+    put_word(m->area, kernelsun_at_block(&m->s, p, field), value);
 }
 
 static int is_free(const machine *m, uint32_t p)
 {
-    return block(m, p, BLOCK_HEADER) == 0;
+    return block(m, p, KERNELSUN_BLOCK_HEADER) == 0;
+}
+
+static uint32_t wear_of(const machine *m, uint32_t p)
+{
+    return block(m, p, KERNELSUN_BLOCK_WEAR);
 }
 
 /* ---- Acts on locks and owners ---- */
 
 static uint32_t take(machine *m, size_t lock)
 {
-    if (word_get(m->area, lock) != 0) {
+    if (kernelsun_word(m->area, lock) != 0) {
         return KERNELSUN_BLOCKED;
     }
-    word_put(m->area, lock, mine(m));
+    put_word(m->area, lock, mine(m));
     return KERNELSUN_WENT;
 }
 
@@ -164,16 +169,16 @@ static uint32_t release(machine *m, size_t lock)
     if (!is_mine(m, lock)) {
         return KERNELSUN_FAULT;
     }
-    word_put(m->area, lock, 0);
+    put_word(m->area, lock, 0);
     return KERNELSUN_WENT;
 }
 
 static uint32_t own(machine *m, size_t owner)
 {
-    if (word_get(m->area, owner) != 0) {
+    if (kernelsun_word(m->area, owner) != 0) {
         return KERNELSUN_FAULT;
     }
-    word_put(m->area, owner, mine(m));
+    put_word(m->area, owner, mine(m));
     return KERNELSUN_WENT;
 }
 
@@ -184,25 +189,25 @@ static uint32_t let_go(machine *m, size_t owner)
 
 static size_t n_lock(const machine *m)
 {
-    return lock_word(&m->s, reg(m, THREAD_N));
+    return kernelsun_at_lock(&m->s, reg(m, KERNELSUN_THREAD_N));
 }
 
 /* The owner word of the block that register p or q names. */
 static size_t owner_of(const machine *m, size_t field)
 {
-    return block_word(&m->s, reg(m, field), BLOCK_OWNER);
+    return kernelsun_at_block(&m->s, reg(m, field), KERNELSUN_BLOCK_OWNER);
 }
 
 /* ---- Acts on the map ---- */
 
 static uint32_t mapped(const machine *m)
 {
-    return word_get(m->area, map_word(&m->s, reg(m, THREAD_N)));
+    return kernelsun_word(m->area, kernelsun_at_map(&m->s, reg(m, KERNELSUN_THREAD_N)));
 }
 
 static uint32_t map_to(machine *m, uint32_t entry)
 {
-    word_put(m->area, map_word(&m->s, reg(m, THREAD_N)), entry);
+    put_word(m->area, kernelsun_at_map(&m->s, reg(m, KERNELSUN_THREAD_N)), entry);
     return KERNELSUN_WENT;
 }
 
@@ -211,7 +216,7 @@ static uint32_t if_mapped_go(machine *m, uint32_t there)
 {
     uint32_t entry = mapped(m);
     if (entry != 0) {
-        set_reg(m, THREAD_P, entry - 1);
+        set_reg(m, KERNELSUN_THREAD_P, entry - 1);
         m->next = there;
     }
     return KERNELSUN_WENT;
@@ -224,7 +229,7 @@ static uint32_t if_unmapped_go(machine *m, uint32_t there)
     if (entry == 0) {
         m->next = there;
     } else {
-        set_reg(m, THREAD_P, entry - 1);
+        set_reg(m, KERNELSUN_THREAD_P, entry - 1);
     }
     return KERNELSUN_WENT;
 }
@@ -232,7 +237,7 @@ static uint32_t if_unmapped_go(machine *m, uint32_t there)
 static uint32_t if_unmapped_empty_and_go(machine *m, uint32_t there)
 {
     if (mapped(m) == 0) {
-        set_reg(m, THREAD_C, 0);
+        set_reg(m, KERNELSUN_THREAD_C, 0);
     }
     return if_unmapped_go(m, there);
 }
@@ -241,10 +246,11 @@ static uint32_t if_unmapped_empty_and_go(machine *m, uint32_t there)
 
 static uint32_t write_header(machine *m, uint32_t p, uint32_t header)
 {
-    if (!is_mine(m, WORD_HEADERS_OWNER) || !is_mine(m, block_word(&m->s, p, BLOCK_OWNER))) {
+    if (!is_mine(m, KERNELSUN_AT_OWNER) ||
+        !is_mine(m, kernelsun_at_block(&m->s, p, KERNELSUN_BLOCK_OWNER))) {
         return KERNELSUN_FAULT;
     }
-    set_block(m, p, BLOCK_HEADER, header);
+    set_block(m, p, KERNELSUN_BLOCK_HEADER, header);
     return KERNELSUN_WENT;
 }
 
@@ -252,16 +258,16 @@ static uint32_t write_header(machine *m, uint32_t p, uint32_t header)
 static uint32_t free_and_wear(machine *m, uint32_t p)
 {
     uint32_t number = write_header(m, p, 0);
-    uint32_t wear = block(m, p, BLOCK_WEAR);
-    if (number == KERNELSUN_WENT && wear != WORD_MOST) {
-        set_block(m, p, BLOCK_WEAR, wear + 1);
+    uint32_t wear = wear_of(m, p);
+    if (number == KERNELSUN_WENT && wear != KERNELSUN_WEAR_MOST) {
+        set_block(m, p, KERNELSUN_BLOCK_WEAR, wear + 1);
     }
     return number;
 }
 
 static int content_within_reach(const machine *m, uint32_t p)
 {
-    return is_mine(m, block_word(&m->s, p, BLOCK_OWNER)) && !is_free(m, p);
+    return is_mine(m, kernelsun_at_block(&m->s, p, KERNELSUN_BLOCK_OWNER)) && !is_free(m, p);
 }
 
 static uint32_t read_content(machine *m, uint32_t p)
@@ -269,7 +275,7 @@ static uint32_t read_content(machine *m, uint32_t p)
     if (!content_within_reach(m, p)) {
         return KERNELSUN_FAULT;
     }
-    set_reg(m, THREAD_C, block(m, p, BLOCK_CONTENT));
+    set_reg(m, KERNELSUN_THREAD_C, block(m, p, KERNELSUN_BLOCK_CONTENT));
     return KERNELSUN_WENT;
 }
 
@@ -278,27 +284,27 @@ static uint32_t write_content(machine *m, uint32_t p, uint32_t content)
     if (!content_within_reach(m, p)) {
         return KERNELSUN_FAULT;
     }
-    set_block(m, p, BLOCK_CONTENT, content);
+    set_block(m, p, KERNELSUN_BLOCK_CONTENT, content);
     return KERNELSUN_WENT;
 }
 
 static uint32_t read_header(machine *m, uint32_t p)
 {
-    if (!is_mine(m, WORD_HEADERS_OWNER)) {
+    if (!is_mine(m, KERNELSUN_AT_OWNER)) {
         return KERNELSUN_FAULT;
     }
-    set_reg(m, THREAD_H, block(m, p, BLOCK_HEADER));
+    set_reg(m, KERNELSUN_THREAD_H, block(m, p, KERNELSUN_BLOCK_HEADER));
     return KERNELSUN_WENT;
 }
 
 /* L5. */
 static uint32_t if_free_go(machine *m, uint32_t there)
 {
-    uint32_t header = reg(m, THREAD_H);
+    uint32_t header = reg(m, KERNELSUN_THREAD_H);
     if (header == 0) {
         m->next = there;
     } else {
-        set_reg(m, THREAD_N, header - 1);
+        set_reg(m, KERNELSUN_THREAD_N, header - 1);
     }
     return KERNELSUN_WENT;
 }
@@ -318,8 +324,7 @@ static uint32_t most_worn_free(const machine *m)
 {
     uint32_t best = m->s.p;
     for (uint32_t p = 0; p < m->s.p; p++) {
-        if (is_free(m, p) &&
-            (best == m->s.p || block(m, p, BLOCK_WEAR) > block(m, best, BLOCK_WEAR))) {
+        if (is_free(m, p) && (best == m->s.p || wear_of(m, p) > wear_of(m, best))) {
             best = p;
         }
     }
@@ -330,8 +335,7 @@ static uint32_t least_worn_mapped(const machine *m)
 {
     uint32_t best = m->s.p;
     for (uint32_t p = 0; p < m->s.p; p++) {
-        if (!is_free(m, p) &&
-            (best == m->s.p || block(m, p, BLOCK_WEAR) < block(m, best, BLOCK_WEAR))) {
+        if (!is_free(m, p) && (best == m->s.p || wear_of(m, p) < wear_of(m, best))) {
             best = p;
         }
     }
@@ -341,17 +345,16 @@ static uint32_t least_worn_mapped(const machine *m)
 /* The sum is made in 64 bits because it must not wrap. */
 static int worth_moving(const machine *m, uint32_t from, uint32_t to)
 {
-    return from != m->s.p && (uint64_t)block(m, to, BLOCK_WEAR) >=
-                                 (uint64_t)block(m, from, BLOCK_WEAR) + m->s.d;
+    return from != m->s.p && (uint64_t)wear_of(m, to) >= (uint64_t)wear_of(m, from) + m->s.d;
 }
 
 static uint32_t choose_free(machine *m)
 {
     uint32_t p = lowest_free(m);
-    if (!is_mine(m, WORD_HEADERS_OWNER) || p == m->s.p) {
+    if (!is_mine(m, KERNELSUN_AT_OWNER) || p == m->s.p) {
         return KERNELSUN_FAULT;
     }
-    set_reg(m, THREAD_P, p);
+    set_reg(m, KERNELSUN_THREAD_P, p);
     return KERNELSUN_WENT;
 }
 
@@ -359,11 +362,11 @@ static uint32_t choose_from_and_to(machine *m)
 {
     uint32_t to = most_worn_free(m);
     uint32_t from = least_worn_mapped(m);
-    if (!is_mine(m, WORD_HEADERS_OWNER) || to == m->s.p) {
+    if (!is_mine(m, KERNELSUN_AT_OWNER) || to == m->s.p) {
         return KERNELSUN_FAULT;
     }
-    set_reg(m, THREAD_P, worth_moving(m, from, to) ? from : to);
-    set_reg(m, THREAD_Q, to);
+    set_reg(m, KERNELSUN_THREAD_P, worth_moving(m, from, to) ? from : to);
+    set_reg(m, KERNELSUN_THREAD_Q, to);
     return KERNELSUN_WENT;
 }
 
@@ -371,23 +374,23 @@ static uint32_t choose_from_and_to(machine *m)
 
 static uint32_t write_line(machine *m, uint32_t line)
 {
-    uint32_t n = reg(m, THREAD_N), p = reg(m, THREAD_P);
+    uint32_t n = reg(m, KERNELSUN_THREAD_N), p = reg(m, KERNELSUN_THREAD_P);
     switch (line) {
-    case 1: return take(m, WORD_HEADER_LOCK);
+    case 1: return take(m, KERNELSUN_AT_LOCK);
     case 2: return take(m, n_lock(m));
     case 3: return if_mapped_go(m, 12);
-    case 4: return own(m, WORD_HEADERS_OWNER);
+    case 4: return own(m, KERNELSUN_AT_OWNER);
     case 5: return choose_free(m);
-    case 6: return own(m, owner_of(m, THREAD_P));
+    case 6: return own(m, owner_of(m, KERNELSUN_THREAD_P));
     case 7: return write_header(m, p, n + 1);
     case 8: return write_content(m, p, 0);
-    case 9: return let_go(m, owner_of(m, THREAD_P));
+    case 9: return let_go(m, owner_of(m, KERNELSUN_THREAD_P));
     case 10: return map_to(m, p + 1);
-    case 11: return let_go(m, WORD_HEADERS_OWNER);
-    case 12: return release(m, WORD_HEADER_LOCK);
-    case 13: return own(m, owner_of(m, THREAD_P));
-    case 14: return write_content(m, p, reg(m, THREAD_C));
-    case 15: return let_go(m, owner_of(m, THREAD_P));
+    case 11: return let_go(m, KERNELSUN_AT_OWNER);
+    case 12: return release(m, KERNELSUN_AT_LOCK);
+    case 13: return own(m, owner_of(m, KERNELSUN_THREAD_P));
+    case 14: return write_content(m, p, reg(m, KERNELSUN_THREAD_C));
+    case 15: return let_go(m, owner_of(m, KERNELSUN_THREAD_P));
     default: return release(m, n_lock(m));
     }
 }
@@ -397,9 +400,9 @@ static uint32_t read_line(machine *m, uint32_t line)
     switch (line) {
     case 1: return take(m, n_lock(m));
     case 2: return if_unmapped_empty_and_go(m, 6);
-    case 3: return own(m, owner_of(m, THREAD_P));
-    case 4: return read_content(m, reg(m, THREAD_P));
-    case 5: return let_go(m, owner_of(m, THREAD_P));
+    case 3: return own(m, owner_of(m, KERNELSUN_THREAD_P));
+    case 4: return read_content(m, reg(m, KERNELSUN_THREAD_P));
+    case 5: return let_go(m, owner_of(m, KERNELSUN_THREAD_P));
     default: return release(m, n_lock(m));
     }
 }
@@ -407,42 +410,42 @@ static uint32_t read_line(machine *m, uint32_t line)
 static uint32_t unmap_line(machine *m, uint32_t line)
 {
     switch (line) {
-    case 1: return take(m, WORD_HEADER_LOCK);
+    case 1: return take(m, KERNELSUN_AT_LOCK);
     case 2: return take(m, n_lock(m));
     case 3: return if_unmapped_go(m, 10);
-    case 4: return own(m, WORD_HEADERS_OWNER);
-    case 5: return own(m, owner_of(m, THREAD_P));
+    case 4: return own(m, KERNELSUN_AT_OWNER);
+    case 5: return own(m, owner_of(m, KERNELSUN_THREAD_P));
     case 6: return map_to(m, 0);
-    case 7: return free_and_wear(m, reg(m, THREAD_P));
-    case 8: return let_go(m, owner_of(m, THREAD_P));
-    case 9: return let_go(m, WORD_HEADERS_OWNER);
+    case 7: return free_and_wear(m, reg(m, KERNELSUN_THREAD_P));
+    case 8: return let_go(m, owner_of(m, KERNELSUN_THREAD_P));
+    case 9: return let_go(m, KERNELSUN_AT_OWNER);
     case 10: return release(m, n_lock(m));
-    default: return release(m, WORD_HEADER_LOCK);
+    default: return release(m, KERNELSUN_AT_LOCK);
     }
 }
 
 static uint32_t level_line(machine *m, uint32_t line)
 {
-    uint32_t p = reg(m, THREAD_P), q = reg(m, THREAD_Q);
+    uint32_t p = reg(m, KERNELSUN_THREAD_P), q = reg(m, KERNELSUN_THREAD_Q);
     switch (line) {
-    case 1: return take(m, WORD_HEADER_LOCK);
-    case 2: return own(m, WORD_HEADERS_OWNER);
+    case 1: return take(m, KERNELSUN_AT_LOCK);
+    case 2: return own(m, KERNELSUN_AT_OWNER);
     case 3: return choose_from_and_to(m);
     case 4: return read_header(m, p);
     case 5: return if_free_go(m, 17);
     case 6: return take(m, n_lock(m));
-    case 7: return own(m, owner_of(m, THREAD_P));
+    case 7: return own(m, owner_of(m, KERNELSUN_THREAD_P));
     case 8: return read_content(m, p);
-    case 9: return own(m, owner_of(m, THREAD_Q));
-    case 10: return write_header(m, q, reg(m, THREAD_H));
-    case 11: return write_content(m, q, reg(m, THREAD_C));
+    case 9: return own(m, owner_of(m, KERNELSUN_THREAD_Q));
+    case 10: return write_header(m, q, reg(m, KERNELSUN_THREAD_H));
+    case 11: return write_content(m, q, reg(m, KERNELSUN_THREAD_C));
     case 12: return map_to(m, q + 1);
     case 13: return free_and_wear(m, p);
-    case 14: return let_go(m, owner_of(m, THREAD_Q));
-    case 15: return let_go(m, owner_of(m, THREAD_P));
+    case 14: return let_go(m, owner_of(m, KERNELSUN_THREAD_Q));
+    case 15: return let_go(m, owner_of(m, KERNELSUN_THREAD_P));
     case 16: return release(m, n_lock(m));
-    case 17: return let_go(m, WORD_HEADERS_OWNER);
-    default: return release(m, WORD_HEADER_LOCK);
+    case 17: return let_go(m, KERNELSUN_AT_OWNER);
+    default: return release(m, KERNELSUN_AT_LOCK);
     }
 }
 
@@ -461,8 +464,8 @@ static uint32_t line_of(machine *m, uint32_t op, uint32_t line)
 static uint32_t finishing_value(const machine *m, uint32_t op)
 {
     switch (op) {
-    case KERNELSUN_READ: return reg(m, THREAD_C);
-    case KERNELSUN_LEVEL: return reg(m, THREAD_H) != 0;
+    case KERNELSUN_READ: return reg(m, KERNELSUN_THREAD_C);
+    case KERNELSUN_LEVEL: return reg(m, KERNELSUN_THREAD_H) != 0;
     default: return 0;
     }
 }
@@ -470,7 +473,7 @@ static uint32_t finishing_value(const machine *m, uint32_t op)
 static uint64_t finish(machine *m, uint32_t op)
 {
     uint32_t value = finishing_value(m, op);
-    for (size_t field = 0; field < THREAD_WORDS; field++) {
+    for (size_t field = 0; field < KERNELSUN_THREAD_WORDS; field++) {
         set_reg(m, field, 0);
     }
     return result(KERNELSUN_FINISHED, value);
@@ -478,18 +481,18 @@ static uint64_t finish(machine *m, uint32_t op)
 
 uint64_t ref_format(uint8_t *area, size_t len, uint32_t t, uint32_t n, uint32_t p, uint32_t d)
 {
-    sizes s = {t, n, p, d};
+    kernelsun_sizes s = {t, n, p, d};
     if (!sizes_in_limits(&s)) {
         return result(KERNELSUN_LIMITS, 0);
     }
-    if (len != area_length(&s)) {
+    if (len != KERNELSUN_LENGTH(s.t, s.n, s.p)) {
         return result(KERNELSUN_SHAPE, 0);
     }
     memset(area, 0, len);
-    word_put(area, WORD_T, t);
-    word_put(area, WORD_N, n);
-    word_put(area, WORD_P, p);
-    word_put(area, WORD_D, d);
+    put_word(area, KERNELSUN_AT_T, t);
+    put_word(area, KERNELSUN_AT_N, n);
+    put_word(area, KERNELSUN_AT_P, p);
+    put_word(area, KERNELSUN_AT_D, d);
     return result(KERNELSUN_WENT, 0);
 }
 
@@ -499,14 +502,14 @@ static uint32_t begin_refusal(const uint8_t *area, size_t len, uint32_t thread, 
     if (!well_formed(area, len)) {
         return KERNELSUN_SHAPE;
     }
-    sizes s = sizes_of(area);
+    kernelsun_sizes s = kernelsun_sizes_of(area);
     if (thread >= s.t) {
         return KERNELSUN_THREAD;
     }
-    if (word_get(area, thread_word(thread, THREAD_OP)) != 0) {
+    if (kernelsun_operation(area, thread) != 0) {
         return KERNELSUN_BUSY;
     }
-    if (!within(op, 1, OPERATIONS)) {
+    if (!within(op, KERNELSUN_WRITE, KERNELSUN_LEVEL)) {
         return KERNELSUN_OPERATION;
     }
     if (op != KERNELSUN_LEVEL && n >= s.n) {
@@ -519,10 +522,12 @@ uint64_t ref_begin(uint8_t *area, size_t len, uint32_t thread, uint32_t op, uint
 {
     uint32_t refusal = begin_refusal(area, len, thread, op, n);
     if (refusal == KERNELSUN_WENT) {
-        word_put(area, thread_word(thread, THREAD_OP), op);
-        word_put(area, thread_word(thread, THREAD_LINE), 1);
-        word_put(area, thread_word(thread, THREAD_N), op == KERNELSUN_LEVEL ? 0 : n);
-        word_put(area, thread_word(thread, THREAD_C), op == KERNELSUN_WRITE ? c : 0);
+        put_word(area, kernelsun_at_thread(thread, KERNELSUN_THREAD_OPERATION), op);
+        put_word(area, kernelsun_at_thread(thread, KERNELSUN_THREAD_LINE), 1);
+        put_word(area, kernelsun_at_thread(thread, KERNELSUN_THREAD_N),
+                 op == KERNELSUN_LEVEL ? 0 : n);
+        put_word(area, kernelsun_at_thread(thread, KERNELSUN_THREAD_C),
+                 op == KERNELSUN_WRITE ? c : 0);
     }
     return result(refusal, 0);
 }
@@ -532,10 +537,10 @@ static uint32_t step_refusal(const uint8_t *area, size_t len, uint32_t thread)
     if (!well_formed(area, len)) {
         return KERNELSUN_SHAPE;
     }
-    if (thread >= word_get(area, WORD_T)) {
+    if (thread >= kernelsun_t(area)) {
         return KERNELSUN_THREAD;
     }
-    if (word_get(area, thread_word(thread, THREAD_OP)) == 0) {
+    if (kernelsun_operation(area, thread) == 0) {
         return KERNELSUN_IDLE;
     }
     return KERNELSUN_WENT;
@@ -547,16 +552,16 @@ uint64_t ref_step(uint8_t *area, size_t len, uint32_t thread)
     if (number != KERNELSUN_WENT) {
         return result(number, 0);
     }
-    machine m = {area, sizes_of(area), thread, 0};
-    uint32_t op = reg(&m, THREAD_OP), line = reg(&m, THREAD_LINE);
+    machine m = {area, kernelsun_sizes_of(area), thread, 0};
+    uint32_t op = reg(&m, KERNELSUN_THREAD_OPERATION), line = reg(&m, KERNELSUN_THREAD_LINE);
     m.next = line + 1;
     number = line_of(&m, op, line);
     if (number != KERNELSUN_WENT) {
         return result(number, 0);
     }
-    if (line == last_line(op)) {
+    if (line == kernelsun_last_line(op)) {
         return finish(&m, op);
     }
-    set_reg(&m, THREAD_LINE, m.next);
+    set_reg(&m, KERNELSUN_THREAD_LINE, m.next);
     return result(KERNELSUN_WENT, 0);
 }

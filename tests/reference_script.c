@@ -7,7 +7,6 @@
 #include <string.h>
 
 #include "kernelsun.h"
-#include "layout.h"
 #include "reference.h"
 
 /* The program's own two numbers, beside those of the table. */
@@ -102,9 +101,8 @@ static int read_line(text *in, uint8_t *letter, uint32_t field[FIELDS_MOST])
 static uint64_t run_format(store *kept, const uint32_t field[FIELDS_MOST])
 {
     uint8_t fresh[KERNELSUN_LENGTH_MOST];
-    sizes s = {field[0], field[1], field[2], field[3]};
-    size_t len = area_length(&s);
-    uint64_t r = ref_format(fresh, len, s.t, s.n, s.p, s.d);
+    size_t len = KERNELSUN_LENGTH(field[0], field[1], field[2]);
+    uint64_t r = ref_format(fresh, len, field[0], field[1], field[2], field[3]);
     if (kernelsun_number(r) == KERNELSUN_WENT) {
         memcpy(kept->bytes, fresh, len);
         kept->len = len;

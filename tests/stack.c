@@ -54,7 +54,8 @@ static void steps(void)
         } while (kernelsun_number(r) == KERNELSUN_WENT);
         require(kernelsun_number(r) == KERNELSUN_FINISHED, "step");
         if (i < sizeof ops / sizeof ops[0]) {
-            begin(area, sizeof area, 0, ops[i][0], ops[i][1], 9);
+            r = begin(area, sizeof area, 0, ops[i][0], ops[i][1], 9);
+            require(kernelsun_number(r) == KERNELSUN_WENT, "begin");
         }
     }
     require(kernelsun_value(r) == 1, "the levelling moves a content");

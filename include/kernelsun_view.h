@@ -148,19 +148,30 @@ static inline kernelsun_sizes kernelsun_sizes_of(const uint8_t *area)
     return s;
 }
 
-/* 1 where the area's sizes are within their limits and len is the length that they have, else 0. */
-static inline int kernelsun_viewable(const uint8_t *area, size_t len)
+/* The length of the area that starts here, by its sizes; 0 where one of them is outside its limits
+   or where it is longer than room, the bytes that may be read. */
+static inline size_t kernelsun_length_in(const uint8_t *area, size_t room)
 {
     kernelsun_sizes s;
-    if (len < 4 * (size_t)KERNELSUN_HEAD_WORDS) {
+    size_t length;
+    if (room < 4 * (size_t)KERNELSUN_HEAD_WORDS) {
         return 0;
     }
     s = kernelsun_sizes_of(area);
-    return s.t >= KERNELSUN_THREADS_LEAST && s.t <= KERNELSUN_THREADS_MOST &&
-           s.n >= KERNELSUN_LOGICAL_LEAST && s.n <= KERNELSUN_LOGICAL_MOST &&
-           s.p >= KERNELSUN_PHYSICAL_LEAST(s.n) && s.p <= KERNELSUN_PHYSICAL_MOST &&
-           s.d >= KERNELSUN_DISTANCE_LEAST && s.d <= KERNELSUN_DISTANCE_MOST &&
-           len == KERNELSUN_LENGTH(s.t, s.n, s.p);
+    if (s.t < KERNELSUN_THREADS_LEAST || s.t > KERNELSUN_THREADS_MOST ||
+        s.n < KERNELSUN_LOGICAL_LEAST || s.n > KERNELSUN_LOGICAL_MOST ||
+        s.p < KERNELSUN_PHYSICAL_LEAST(s.n) || s.p > KERNELSUN_PHYSICAL_MOST ||
+        s.d < KERNELSUN_DISTANCE_LEAST || s.d > KERNELSUN_DISTANCE_MOST) {
+        return 0;
+    }
+    length = KERNELSUN_LENGTH(s.t, s.n, s.p);
+    return length <= room ? length : 0;
+}
+
+/* 1 where the area's sizes are within their limits and len is the length that they have, else 0. */
+static inline int kernelsun_viewable(const uint8_t *area, size_t len)
+{
+    return len > 0 && kernelsun_length_in(area, len) == len;
 }
 
 /* ---- Words with a meaning ---- */

@@ -315,6 +315,25 @@ static void check_sizes_viewable(void)
     }
 }
 
+/* The length by the sizes, in more room and in just enough; 0 in too little, and for bad sizes. */
+static void check_length_in(void)
+{
+    static const kernelsun_sizes good = {T, N, P, D}, bad = {T, N, 513, D};
+    size_t length = KERNELSUN_LENGTH(T, N, P);
+    static area a;
+    about("the length of an area inside a larger page");
+    make_with_sizes(&a, &good, length + 40);
+    for (unsigned place = 0; place < PLACES; place++) {
+        const uint8_t *at = placed(&a, place);
+        for (size_t room = 0; room <= a.len; room++) {
+            expect_equal("length in", (uint32_t)kernelsun_length_in(at, room),
+                         room < length ? 0 : (uint32_t)length);
+        }
+    }
+    make_with_sizes(&a, &bad, KERNELSUN_LENGTH(T, N, 513));
+    expect_equal("length in", (uint32_t)kernelsun_length_in(a.bytes, a.len), 0);
+}
+
 /* Sizes whose length is that of 2, 1, 2 if 32 bits wrap, and sizes of which one is beyond all. */
 static void check_wrapped_sizes(void)
 {
@@ -656,6 +675,7 @@ static void check_reading(void)
     check_rows();
     check_records();
     check_sizes_viewable();
+    check_length_in();
     check_wrapped_sizes();
     check_lengths_viewable();
 }

@@ -20,8 +20,8 @@
  * below neither allocate nor keep anything between calls, the pointer included:
  * an area may be moved, copied, saved and brought back between any two calls.
  *
- * A content is one 32-bit word. 0 is "empty", what a read of an unmapped block
- * gives; a written 0 is a content like any other and reads the same.
+ * A content is a word of 32 bits. Reading an unmapped block gives 0, "empty"; a
+ * 0 that was written counts like any other content and reads the same.
  *
  * Look at an area through kernelsun_view.h, which knows its layout, and leave
  * writing it to the functions: they check the form of the area at each call
@@ -65,8 +65,8 @@
  *
  * WHAT COMES BACK
  *
- * Each call gives a number, which says what happened, and a value. The value
- * is 0 except beside KERNELSUN_FINISHED. Both come packed into one word:
+ * A number, which says what happened, and a value, which is an operation's
+ * answer beside KERNELSUN_FINISHED and else 0. Both come packed into one word:
  * number times 4,294,967,296 plus value. Only KERNELSUN_WENT and
  * KERNELSUN_FINISHED change the area. After any other number each byte is as
  * it was. A compiler that can warns where a result is dropped.

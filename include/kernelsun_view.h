@@ -40,16 +40,12 @@ extern "C" {
 /*
  * ---- Where the words stand: for those who make areas by hand; readers go on below ----
  *
- * An area is little-endian 32-bit words, in this order:
- *
- *     t, n, p, d, header lock, headers' owner
- *     t thread records of 7:  operation, line, n, c, p, q, h
- *     map                     n words: 0 unmapped, else physical number + 1
- *     block locks             n words
- *     p block records of 4:   header, content, wear, owner
- *
- * A lock or an owner is 0 for free, else thread + 1. A header and the register
- * h are 0 for free, else logical number + 1.
+ * Words of 32 bits, the low byte first. The words of the first list come first,
+ * then a record for each thread, a word of the map for each logical block, a
+ * lock for each of them, and a record for each physical block. Where a word
+ * names something (a thread in a lock or owner, a logical block in a header or
+ * register h, a physical block in the map), it is one more than the number that
+ * it names, and 0 where it names nothing.
  */
 
 /* The words at the area's start, by their index. */

@@ -1,5 +1,5 @@
 /*
- * Recipes for firmware, each a function that can be taken over as it is:
+ * Recipes for firmware, each a few functions to take over:
  *
  *   - an area that lies inside a larger page of yours;
  *   - saving an area, open operations included, into one of two copies, and
@@ -11,6 +11,7 @@
  * the middle of two operations, tears the next save, and brings back.
  *
  * Built with: cc -std=c99 examples/recipes.c $(pkg-config --cflags --libs kernelsun)
+ * or, in the tree: cc -std=c99 -Iinclude examples/recipes.c target/staticlib/libkernelsun.a
  */
 #include <stdio.h>
 #include <stdlib.h>
@@ -38,9 +39,14 @@ static uint8_t *area_in_page(void)
 
 /* ---- Two copies and a checksum ---- */
 
-/* A copy as it lies in the memory that keeps it. The sum is over all that follows it. */
+/*
+ * A copy as it lies in the memory that keeps it. The sum is over all that
+ * follows it. An area has no version of its own: one of another major version
+ * may be well formed and mean something else.
+ */
 typedef struct {
     uint32_t sum;
+    uint32_t version;
     uint32_t turn;
     uint32_t length;
     uint8_t area[LENGTH];
@@ -59,7 +65,7 @@ static uint32_t sum_of(const copy *c)
 
 static int is_whole(const copy *c)
 {
-    return c->length == LENGTH && c->sum == sum_of(c);
+    return c->version == KERNELSUN_VERSION_MAJOR && c->length == LENGTH && c->sum == sum_of(c);
 }
 
 /* The newer of two whole copies, the one that is whole, or NULL. Turns may pass their largest. */
@@ -83,6 +89,7 @@ static void save(copy copies[2], const uint8_t *area, size_t bytes)
 {
     static copy made;
     const copy *last = newest(copies);
+    made.version = KERNELSUN_VERSION_MAJOR;
     made.turn = last == NULL ? 0 : last->turn + 1;
     made.length = LENGTH;
     memcpy(made.area, area, LENGTH);
@@ -106,7 +113,8 @@ static int bring_back(const copy copies[2], uint8_t *area)
 /*
  * Steps all threads with open work in turn until all are idle, and gives 1; or 0
  * where a step was refused, or where nothing moved for so long that no area of
- * format() could be in that state. Nobody is left to take the answers.
+ * format() could be in that state. Nobody is left to take the answers. With a
+ * chip, step and act as examples/chip.c does.
  */
 static int end_open_work(uint8_t *area, size_t len)
 {

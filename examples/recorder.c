@@ -23,7 +23,8 @@
  *
  * A call of step() takes up to 12 KB of the stack of the thread that makes it.
  *
- * Built with: cc -std=c99 -pthread -Iinclude examples/recorder.c LIBRARY
+ * Built with: cc -std=c99 -pthread examples/recorder.c $(pkg-config --cflags --libs kernelsun)
+ * or, in the tree: cc -std=c99 -pthread -Iinclude examples/recorder.c target/staticlib/libkernelsun.a
  */
 #define _POSIX_C_SOURCE 200809L
 

@@ -7,7 +7,8 @@
  * an unworn block to a worn one: the title. The three operations are stepped in
  * turn, one line each, and wait for each other's locks where they must.
  *
- * Built with: cc -std=c99 -Iinclude examples/two_tracks.c LIBRARY
+ * Built with: cc -std=c99 examples/two_tracks.c $(pkg-config --cflags --libs kernelsun)
+ * or, in the tree: cc -std=c99 -Iinclude examples/two_tracks.c target/staticlib/libkernelsun.a
  */
 #include <stdio.h>
 #include <stdlib.h>

@@ -2,13 +2,15 @@
  * kernelsun.h: the C door of Kernelsun, a step machine for the layer of a
  * flash store that decides which physical block holds which logical block.
  *
- * A block that holds the same content for long is never erased, while others
- * are again and again. Levelling, one of the four operations, moves such a
- * content from the least worn block in use to the most worn free one, if their
- * wear differs by a distance that you choose, and so gives the little worn
- * block back for use. It happens where you begin it, and a new block is always
- * the free one of the lowest number: the layer does not even out wear by
- * itself.
+ * It drives no chip: contents are words in memory, and a driver of yours acts
+ * beside it (docs/USING.md, "The lines"). Wear counts how often a block was
+ * freed. Levelling, one of the four operations, moves the content of the least
+ * worn block in use to the most worn free one, if their wear differs by a
+ * distance that you choose, and so gives the little worn block back for use. It
+ * happens where you begin it, and a new block is always the free one of the
+ * lowest number: the layer does not even out wear by itself. Writing a block
+ * that is mapped frees nothing, so neither wear nor levelling sees it, though a
+ * chip has to erase for it.
  *
  * THE AREA
  *
@@ -80,8 +82,10 @@
  * Linux (SSE2 registers and the red zone are used); it may be part of a
  * position-independent program. It takes the names format, begin and step and
  * no other, asks for memcpy and memset and for nothing else, has no data of its
- * own, and each call ends by itself. step() takes up to 12 KB of stack,
- * format() and begin() less than 1 KB.
+ * own, and each call ends by itself. step() takes nearly 12 KB of stack whatever
+ * the area's size, format() and begin() less than 1 KB; what your memcpy and
+ * memset take comes on top. (With a shared C library, link with -z now: else the
+ * first call looks them up on that stack, which takes some KB more.)
  */
 #ifndef KERNELSUN_H
 #define KERNELSUN_H
@@ -96,7 +100,8 @@ extern "C" {
 /*
  * The version of this header and of the library beside it. The first number
  * rises where an area of before is refused or means something else, or where a
- * call answers otherwise; the second where something is added.
+ * call answers otherwise; the second where something is added. An area does not
+ * hold it: who saves areas saves the first number with them.
  */
 #define KERNELSUN_VERSION_MAJOR 1
 #define KERNELSUN_VERSION_MINOR 0

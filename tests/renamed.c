@@ -46,6 +46,6 @@ int main(void)
         printf("FAILED: the renamed functions don't work beside others of their old names\n");
         return 1;
     }
-    printf("recipes: the example prints what is stored beside it, renamed functions work\n");
+    printf("recipes: the examples print what is stored beside them, renamed functions work\n");
     return 0;
 }

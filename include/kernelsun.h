@@ -5,7 +5,7 @@
  * It drives no chip: contents are words in memory, and a driver of yours acts
  * beside it (docs/USING.md, "The lines"). Wear counts how often a block was
  * freed. Levelling, one of the four operations, moves the content of the least
- * worn block in use to the most worn free one, if their wear differs by a
+ * worn block in use to the most worn free one, if that one is worn more by a
  * distance that you choose, and so gives the little worn block back for use. It
  * happens where you begin it, and a new block is always the free one of the
  * lowest number: the layer does not even out wear by itself. Writing a block
@@ -48,10 +48,10 @@
  * open operation holds: step the other threads and try again.
  *
  * In an area that came from format() and was changed by these functions alone,
- * some thread with open work can always step: that is proved. No operation has
- * more than 18 lines and none goes back to an earlier one, so stepping all open
- * threads in turn finishes all of them, if no more are begun meanwhile: that is
- * argued from the lines and not yet proved.
+ * some thread with open work can step while any operation is open: that is
+ * proved. No operation has more than 18 lines and none goes back to an earlier
+ * one, so stepping all open threads in turn finishes all of them, if no more are
+ * begun meanwhile: that is argued from the lines and not yet proved.
  *
  *     uint64_t r = begin(area, len, 0, KERNELSUN_READ, 7, 0);
  *     if (kernelsun_number(r) == KERNELSUN_WENT) {
@@ -64,6 +64,14 @@
  *     }
  *     if (kernelsun_number(r) == KERNELSUN_FINISHED)
  *         content = kernelsun_value(r);
+ *
+ * WHEN OPERATIONS OVERLAP
+ *
+ * In such an area each finished read, write and unmap has answered as if it had
+ * been done at once, at the moment at which it took its last lock: a write and
+ * an unmap with their second step, a read with its first. When all threads are
+ * idle, the bytes are those of the same operations one after the other, in that
+ * order. Both are proved.
  *
  * WHAT COMES BACK
  *
@@ -141,23 +149,26 @@ extern "C" {
 #define KERNELSUN_WRITE 1u /* block n gets content c; answers 0 */
 #define KERNELSUN_READ 2u  /* answers the content of block n, 0 if unmapped; c is not looked at */
 #define KERNELSUN_UNMAP 3u /* block n has no content any more; answers 0; c is not looked at */
-#define KERNELSUN_LEVEL 4u /* moves one content if wear differs by d or more; answers 1 if it did,
-                              else 0; n and c are not looked at */
+#define KERNELSUN_LEVEL 4u /* moves one content, if a free block is worn by d or more beyond its own;
+                              answers 1 if it did, else 0; n and c are not looked at */
 
-/* Numbers given back. The area is unchanged after each but the first two. */
-#define KERNELSUN_WENT 0u       /* formatted, begun or stepped */
-#define KERNELSUN_FINISHED 1u   /* last line done; the value is the operation's answer */
-#define KERNELSUN_BLOCKED 2u    /* the line takes a lock that isn't free; try again later */
-#define KERNELSUN_SHAPE 10u     /* not a well-formed area, or its length isn't exact */
-#define KERNELSUN_THREAD 11u    /* thread not below t */
-#define KERNELSUN_BUSY 12u      /* begin on a thread that has an open operation */
-#define KERNELSUN_IDLE 13u      /* step of a thread that has none */
-#define KERNELSUN_LOGICAL 14u   /* block number not below n (levelling takes any) */
-#define KERNELSUN_OPERATION 15u /* operation not 1 to 4 */
-#define KERNELSUN_FAULT 16u     /* a line's need isn't met: the area was changed by other hands */
-#define KERNELSUN_LIMITS 17u    /* format with a size outside its limits */
+/*
+ * Numbers given back. docs/USING.md, "Numbers", says when; each function below,
+ * in which order. The area is unchanged after each but the first two.
+ */
+#define KERNELSUN_WENT 0u
+#define KERNELSUN_FINISHED 1u
+#define KERNELSUN_BLOCKED 2u /* try again, after others */
+#define KERNELSUN_SHAPE 10u
+#define KERNELSUN_THREAD 11u
+#define KERNELSUN_BUSY 12u
+#define KERNELSUN_IDLE 13u
+#define KERNELSUN_LOGICAL 14u
+#define KERNELSUN_OPERATION 15u
+#define KERNELSUN_FAULT 16u
+#define KERNELSUN_LIMITS 17u
 
-/* The number in a result: one of the table above. */
+/* The number in a result: one of those above. */
 static inline uint32_t kernelsun_number(uint64_t result)
 {
     return (uint32_t)(result >> 32);

@@ -8,11 +8,11 @@
  *
  * WHICH AREAS
  *
- * An area that a call has not refused with KERNELSUN_SHAPE, or one of which
- * kernelsun_viewable() says 1, which looks at length and sizes alone. Of such an
- * area any index may be asked. Where it is not below its size, nothing is read,
- * and what comes back is KERNELSUN_NONE from those functions that can give it,
- * and 0 from the others.
+ * One that format() made, or on which begin() or step() gave another number than
+ * KERNELSUN_SHAPE, or of which kernelsun_viewable() says 1, which looks at length
+ * and sizes alone. Of such an area any index may be asked. Where it is not below
+ * its size, nothing is read, and what comes back is KERNELSUN_NONE from those
+ * functions that can give it, and 0 from the others.
  *
  * As with the calls, nothing may write to the area while it is read. Two readers
  * do no harm.

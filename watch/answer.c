@@ -18,7 +18,7 @@ static void add_limit(const char *name, uint32_t value, uint32_t least, uint32_t
     }
 }
 
-/* Where N is no size, there is no least P. */
+/* Where N is no size, there is no least P, but still a most. */
 static void add_limits(const uint32_t size[4])
 {
     uint32_t n = size[1];
@@ -26,23 +26,41 @@ static void add_limits(const uint32_t size[4])
     add_limit("N", n, KERNELSUN_LOGICAL_LEAST, KERNELSUN_LOGICAL_MOST);
     if (n >= KERNELSUN_LOGICAL_LEAST && n <= KERNELSUN_LOGICAL_MOST) {
         add_limit("P", size[2], KERNELSUN_PHYSICAL_LEAST(n), KERNELSUN_PHYSICAL_MOST);
+    } else if (size[2] > KERNELSUN_PHYSICAL_MOST) {
+        add(", P is %u, more than %u", (unsigned)size[2], (unsigned)KERNELSUN_PHYSICAL_MOST);
     }
     add_limit("D", size[3], KERNELSUN_DISTANCE_LEAST, KERNELSUN_DISTANCE_MOST);
 }
 
-/* Which lock a thread waits for, and where the one stands that holds it. */
-static void add_wait(const uint8_t *area, uint32_t thread)
+/* Behind who waits: for which lock, and where the one stands that holds it. */
+static void add_wait(const uint8_t *area, uint32_t lock, uint32_t holder)
 {
-    uint32_t lock = kernelsun_next_lock(area, thread);
-    uint32_t holder = kernelsun_lock_holder(area, lock);
-    add(", t%u waits for ", (unsigned)thread);
     if (lock == KERNELSUN_LOCK_H) {
-        add("H");
+        add(" waits for H");
     } else {
-        add("lock %u", (unsigned)lock);
+        add(" waits for lock %u", (unsigned)lock);
     }
-    if (holder != KERNELSUN_NONE) {
-        add(", held by t%u at %s", (unsigned)holder, kernelsun_thread_label(area, holder));
+    add(", held by t%u at %s", (unsigned)holder, kernelsun_thread_label(area, holder));
+}
+
+/* Whom a blocked thread waits for, and whom that one does. Where only calls have changed the area,
+   no chain comes back to a thread, so none is longer than there are threads. */
+static void add_waits(const uint8_t *area, uint32_t thread)
+{
+    uint32_t waiting = thread;
+    for (uint32_t hop = 0; hop < kernelsun_t(area); hop++) {
+        uint32_t lock = kernelsun_next_lock(area, waiting);
+        uint32_t holder = kernelsun_lock_holder(area, lock);
+        if (holder == KERNELSUN_NONE) {
+            return;
+        }
+        if (hop == 0) {
+            add(", t%u", (unsigned)thread);
+        } else {
+            add(", which");
+        }
+        add_wait(area, lock, holder);
+        waiting = holder;
     }
 }
 
@@ -73,7 +91,7 @@ static void add_refusal(const call_made *made)
         add_limits(given);
         add(made->len == 0 ? "" : ", the earlier store stays");
         break;
-    case KERNELSUN_BLOCKED: add_wait(area, thread); break;
+    case KERNELSUN_BLOCKED: add_waits(area, thread); break;
     default: break;
     }
 }
@@ -92,11 +110,14 @@ static void add_opened(const uint8_t *area, uint32_t thread)
     }
 }
 
-/* A finished operation's value. Write and unmap have none to tell. */
-static void add_value(uint32_t op, uint32_t value)
+/* A finished operation's value. Write and unmap have none to tell. A read's 0 is the empty content
+   or one that was written: which, the map says while the read still holds the number's lock. */
+static void add_value(const uint8_t *before, uint32_t thread, uint32_t value)
 {
+    uint32_t op = kernelsun_operation(before, thread);
     if (op == KERNELSUN_READ) {
-        add(", read %u%s", (unsigned)value, value == 0 ? " (empty)" : "");
+        uint32_t block = kernelsun_map(before, kernelsun_register_n(before, thread));
+        add(", read %u%s", (unsigned)value, block == KERNELSUN_NONE ? " (empty)" : "");
     } else if (op == KERNELSUN_LEVEL && value <= 1) {
         add(value == 1 ? ", moved" : ", nothing to move");
     } else if (value != 0) {
@@ -129,6 +150,7 @@ static void add_whether(const char *where, uint32_t number, const char *none)
 static void add_finding(const uint8_t *area, uint32_t thread, finding what)
 {
     unsigned n = kernelsun_register_n(area, thread), p = kernelsun_register_p(area, thread);
+    unsigned q = kernelsun_register_q(area, thread);
     switch (what) {
     case FINDS_NUMBER:
         add(", %u is", n);
@@ -136,7 +158,7 @@ static void add_finding(const uint8_t *area, uint32_t thread, finding what)
         break;
     case FINDS_FREE: add(", picks block %u", p); break;
     case FINDS_FROM_TO:
-        add(", from block %u, to block %u", p, (unsigned)kernelsun_register_q(area, thread));
+        add(", from block %u, to block %u%s", p, q, p == q ? ": nothing to move" : "");
         break;
     case FINDS_HEADER:
         add(", header of block %u", p);
@@ -240,19 +262,24 @@ static void add_answer(const call_made *made)
         add_opened(made->after, thread);
     } else {
         if (number == KERNELSUN_FINISHED) {
-            add_value(kernelsun_operation(made->before, thread), kernelsun_value(made->result));
+            add_value(made->before, thread, kernelsun_value(made->result));
         }
         add_findings(made);
         add_changes(made->before, made->after);
     }
 }
 
-void show_answer(uint64_t number, const script_line *line, const call_made *made)
+void show_number(uint64_t number)
 {
     add("%llu", (unsigned long long)number);
     go_to(gathered() + 2 < STATE_AT ? STATE_AT - 2 - gathered() : 0);
     print_gathered(0);
     go_to(column() + 2);
+}
+
+void show_answer(uint64_t number, const script_line *line, const call_made *made)
+{
+    show_number(number);
     for (size_t i = 0; i < line->count; i++) {
         add("%s%s", i == 0 ? "" : " ", line->fields[i]);
     }

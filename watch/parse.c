@@ -12,6 +12,21 @@ static int is_blank(int byte)
     return byte == ' ' || byte == '\t';
 }
 
+/* The next byte. A line may also end in \r\n, and the last one in \r: that \r is passed over. */
+static int next_byte(FILE *in)
+{
+    int byte = getc(in), after;
+    if (byte != '\r') {
+        return byte;
+    }
+    after = getc(in);
+    if (after == '\n' || after == EOF) {
+        return after;
+    }
+    ungetc(after, in);
+    return byte;
+}
+
 /* Signs that would not show are written by their number, so that no such field is a good one. */
 static void field_add(char field[FIELD_SIGNS + 1], size_t *length, int byte)
 {
@@ -29,15 +44,20 @@ static void field_add(char field[FIELD_SIGNS + 1], size_t *length, int byte)
 
 int line_read(FILE *in, script_line *line)
 {
-    int byte = getc(in), within = 0, comment = 0;
+    int byte = next_byte(in), within = 0;
     size_t length = 0;
     line->count = 0;
+    line->comment = 0;
     if (byte == EOF) {
         return 0;
     }
-    for (; byte != EOF && byte != '\n'; byte = getc(in)) {
-        comment |= byte == '#';
-        if (comment || is_blank(byte)) {
+    for (; byte != EOF && byte != '\n'; byte = next_byte(in)) {
+        if (byte == '#') {
+            ungetc(byte, in);
+            line->comment = 1;
+            break;
+        }
+        if (is_blank(byte)) {
             within = 0;
             continue;
         }
@@ -48,6 +68,16 @@ int line_read(FILE *in, script_line *line)
         }
         if (line->count <= FIELDS_KEPT) {
             field_add(line->fields[line->count - 1], &length, byte);
+        }
+    }
+    return !ferror(in);
+}
+
+int comment_read(FILE *in, FILE *out)
+{
+    for (int byte = next_byte(in); byte != EOF && byte != '\n'; byte = next_byte(in)) {
+        if (out != NULL) {
+            putc(byte, out);
         }
     }
     return !ferror(in);
@@ -64,7 +94,8 @@ typedef struct {
 /* By command_kind. */
 static const command_form forms[] = {{"f", "f T N P D", 4, {"T", "N", "P", "D"}},
                                      {"b", "b t op n c", 4, {"t", "op", "n", "c"}},
-                                     {"s", "s t", 1, {"t", NULL, NULL, NULL}}};
+                                     {"s", "s t", 1, {"t", NULL, NULL, NULL}},
+                                     {"r", "r t", 1, {"t", NULL, NULL, NULL}}};
 
 enum { AT_OPERATION = 1 };
 
@@ -147,9 +178,9 @@ int line_parse(const script_line *line, command *c, char reason[REASON_SIZE])
 {
     memset(c, 0, sizeof *c);
     if (!find_form(line->fields[0], &c->kind)) {
-        snprintf(reason, REASON_SIZE, "\"%s\" is no command, expected %s, %s or %s",
+        snprintf(reason, REASON_SIZE, "\"%s\" is no command, expected %s, %s, %s or %s",
                  line->fields[0], forms[COMMAND_FORMAT].form, forms[COMMAND_BEGIN].form,
-                 forms[COMMAND_STEP].form);
+                 forms[COMMAND_STEP].form, forms[COMMAND_RUN].form);
         return 0;
     }
     const command_form *form = &forms[c->kind];

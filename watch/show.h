@@ -22,11 +22,17 @@ typedef struct {
     size_t len;
 } call_made;
 
+/* A line's number, up to the column at which the line stands. */
+void show_number(uint64_t number);
+
 /* A line's number, its fields as they were typed, and the answer in words. */
 void show_answer(uint64_t number, const script_line *line, const call_made *made);
 
-/* Locks, owners, threads, map and wear, on as few lines as they need. */
+/* Locks, owners, threads, who waits, map and wear, on as few lines as they need. */
 void show_state(const uint8_t *area);
+
+/* Which operations are open, if any. */
+void show_open(const uint8_t *area, size_t len);
 
 /* How many blocks there are, how many are free, and how worn they are. */
 void show_wear(const uint8_t *area, size_t len);

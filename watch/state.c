@@ -1,4 +1,4 @@
-/* The state and the wear. See show.h. */
+/* The state, what is open and the wear. See show.h. */
 #include "show.h"
 
 #include <stdio.h>
@@ -65,6 +65,24 @@ static size_t begin_entries(const char *name)
 {
     add("%s", name);
     return gathered();
+}
+
+/* Threads that a step would leave where they are, each with the lock that it waits for. */
+static void show_waits(const uint8_t *area)
+{
+    size_t name = begin_entries("waits");
+    for (uint32_t t = 0; t < kernelsun_t(area); t++) {
+        uint32_t lock = kernelsun_next_lock(area, t);
+        if (kernelsun_lock_holder(area, lock) == KERNELSUN_NONE) {
+            continue;
+        }
+        if (lock == KERNELSUN_LOCK_H) {
+            add(" t%u:H", (unsigned)t);
+        } else {
+            add(" t%u:%u", (unsigned)t, (unsigned)lock);
+        }
+    }
+    end_entries(name, 0);
 }
 
 static void show_locks(const uint8_t *area)
@@ -156,6 +174,7 @@ void show_state(const uint8_t *area)
     show_holder("H", kernelsun_lock_h(area));
     show_holder("headers", kernelsun_headers_owner(area));
     show_threads(area);
+    show_waits(area);
     show_locks(area);
     show_owners(area);
     show_map(area);
@@ -164,7 +183,23 @@ void show_state(const uint8_t *area)
     end_line();
 }
 
-/* ---- The wear at the end ---- */
+/* ---- At the end ---- */
+
+void show_open(const uint8_t *area, size_t len)
+{
+    size_t name = begin_entries("open:");
+    for (uint32_t t = 0; len != 0 && t < kernelsun_t(area); t++) {
+        if (kernelsun_operation(area, t) != 0) {
+            add(" t%u:%s", (unsigned)t, kernelsun_thread_label(area, t));
+        }
+    }
+    if (gathered() == name) {
+        forget();
+        return;
+    }
+    print_gathered(2);
+    end_line();
+}
 
 void show_wear(const uint8_t *area, size_t len)
 {

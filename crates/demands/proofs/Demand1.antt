@@ -4,10 +4,10 @@
 --  * unfinished-value: format, begin and a step that finishes nothing give the value 0; for every area and argument.
 --  * finishing-values: what a finishing step gives: a write and an unmap 0, a read register c, a levelling 1 where h isn't free and else 0;
 --    for every area.
---  * wear-counted, wear-never-falls: a block's wear goes up by one exactly where a step frees it, until the largest word, and is never lowered;
---    of every area of bytes, grown or made by hand.
---  * formed-kept: an area that was well formed, grown from fresh or made by hand, is so after every call.
---  * sizes-kept, grown-sizes: a call never changes T, N, P or D.
+--  * wear-counted, wear-never-falls: a block's wear goes up by one exactly where a step frees it, until the largest word, and no begin or step lowers
+--    it; of every area of bytes, grown or made by hand.
+--  * formed-kept: an area that was well formed, grown from fresh or made by hand, is so after every begin and step.
+--  * sizes-kept, grown-sizes: no begin or step changes T, N, P or D.
 --  * grown-well-formed, grown-no-shape: an area grown from fresh is well formed, so no call on it answers SHAPE.
 --  * grown-no-fault: no step of an area grown from fresh answers FAULT.
 --  * grown-progress: where some thread of an area grown from fresh has open work, some thread that has can step.

@@ -1,4 +1,4 @@
-// The step machine on the working store: the searches, what a line would do, and doing it.
+// The step machine: the searches and what a line would do, on the working store, and doing it in the area.
 // `judge_act` and `judge` say what a line would do, `settle` does it. The definitions are those of the crate meaning, specs/Choosing.antt and
 // specs/Step.antt.
 ghost use mathlib.Core.Path.{_≡_};

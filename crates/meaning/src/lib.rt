@@ -1,4 +1,4 @@
-// The types that code and definitions share, the definitions of the machine, the manager and schedules, and all that is proved of them.
+// The types of code and definitions alike, the definitions of the machine, the manager and schedules, and what is proved of them over stores.
 // What the types mean stands in specs/; nothing here runs.
 
 // A register that holds a block's number.

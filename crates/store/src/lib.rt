@@ -1,5 +1,5 @@
 // The store area: its definition and its test, reading and setting its words, and the working store that is filled from it.
-// What an area means stands in specs/Area.antt; every contract below is an equality with a definition there.
+// What an area means stands in specs/Area.antt; every contract below is an equality with a definition of specs/ or of the limits.
 ghost use mathlib.Core.Path.{_≡_};
 ghost use Prim.Native.Nat.{_+_, _*_, _<_, _≤_};
 ghost use lib.Dec.{leb};

@@ -46,8 +46,8 @@ enum { TITLE, FIRST_SLOT = 4, SLOTS = 4, LOGICAL = FIRST_SLOT + TRACKS * SLOTS }
 /* A few physical blocks to spare, and levelling from a difference in wear of four. */
 enum { PHYSICAL = LOGICAL + 4, DISTANCE = 4 };
 
-/* How often each track records; after every third take it erases an older one. */
-enum { TAKES = 100, ERASES_EVERY = 3 };
+/* How often each track records; after every third sound it erases an older one. */
+enum { SOUNDS = 100, ERASES_EVERY = 3 };
 
 /* What a read of an unmapped block gives. */
 enum { EMPTY = 0 };
@@ -62,8 +62,8 @@ static int stopped;          /* something failed: each thread ends at its next c
 /* A track's own: main reads it when the track has ended. */
 typedef struct {
     uint32_t thread;
-    uint32_t kept[SLOTS]; /* what each slot holds: the last take there, or EMPTY */
-    uint32_t takes;       /* how many were recorded and came back */
+    uint32_t kept[SLOTS]; /* what each slot holds: the last sound there, or EMPTY */
+    uint32_t sounds;      /* how many were recorded and came back */
 } track;
 
 /* ---- The mutex and who sleeps ---- */
@@ -226,10 +226,10 @@ static uint32_t block_of(const track *t, uint32_t slot)
     return FIRST_SLOT + SLOTS * t->thread + slot;
 }
 
-/* A content for each take of each track, for the title and for the archive: all different. */
-static uint32_t sound(uint32_t thread, uint32_t take)
+/* A content for each sound of each track, for the title and for the archive: all different. */
+static uint32_t sound(uint32_t thread, uint32_t index)
 {
-    return (thread + 1) << 16 | (take + 1);
+    return (thread + 1) << 16 | (index + 1);
 }
 
 static uint32_t old_sound(uint32_t n)
@@ -243,27 +243,27 @@ static int erase_slot(track *t, uint32_t slot)
     return erase_block(t->thread, block_of(t, slot));
 }
 
-/* Records over the oldest take, and listens to it, to the one that is now oldest, to the title. */
-static int record(track *t, uint32_t take)
+/* Records over the oldest sound, and listens to it, to the one that is now oldest, to the title. */
+static int record(track *t, uint32_t index)
 {
-    uint32_t slot = take % SLOTS, oldest = (take + 1) % SLOTS, older = (take + 2) % SLOTS;
-    t->kept[slot] = sound(t->thread, take);
+    uint32_t slot = index % SLOTS, oldest = (index + 1) % SLOTS, older = (index + 2) % SLOTS;
+    t->kept[slot] = sound(t->thread, index);
     return write_block(t->thread, block_of(t, slot), t->kept[slot]) &&
            holds(t->thread, block_of(t, slot), t->kept[slot]) &&
            holds(t->thread, block_of(t, oldest), t->kept[oldest]) &&
            holds(t->thread, TITLE, old_sound(TITLE)) &&
-           (take % ERASES_EVERY != 0 || erase_slot(t, older));
+           (index % ERASES_EVERY != 0 || erase_slot(t, older));
 }
 
 static void *run_track(void *argument)
 {
     track *t = argument;
-    while (t->takes < TAKES && record(t, t->takes)) {
-        t->takes++;
+    while (t->sounds < SOUNDS && record(t, t->sounds)) {
+        t->sounds++;
     }
     /* So that in the end a worn block is free. */
-    if (t->takes == TAKES) {
-        erase_slot(t, (TAKES - 1) % SLOTS);
+    if (t->sounds == SOUNDS) {
+        erase_slot(t, (SOUNDS - 1) % SLOTS);
     }
     enter();
     tracks_open--;
@@ -431,7 +431,7 @@ static int check(int good, const char *else_says)
 int main(void)
 {
     static track tracks[TRACKS];
-    uint32_t moves = 0, takes = 0;
+    uint32_t moves = 0, sounds = 0;
     for (uint32_t thread = 0; thread < TRACKS; thread++) {
         tracks[thread].thread = thread;
     }
@@ -442,11 +442,11 @@ int main(void)
         return 1;
     }
     for (int i = 0; i < TRACKS; i++) {
-        takes += tracks[i].takes;
+        sounds += tracks[i].sounds;
     }
-    printf("%d tracks recorded %u takes at once, and each take came back.\n"
+    printf("%d tracks recorded %u sounds at once, and each came back.\n"
            "Levelling moved contents, until nothing was left to move.\n"
            "In the end each block holds what was written last, and the area is at rest.\n",
-           TRACKS, (unsigned)takes);
+           TRACKS, (unsigned)sounds);
     return check(fflush(stdout) == 0, "nothing could be printed") ? 0 : 1;
 }

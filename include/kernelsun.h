@@ -69,9 +69,9 @@
  *
  * In such an area each finished read, write and unmap has answered as if it had
  * been done at once, at the moment at which it took its last lock: a write and
- * an unmap with their second step, a read with its first. When all threads are
- * idle, the bytes are those of the same operations one after the other, in that
- * order. Both are proved.
+ * an unmap at their second line, a read at its first. When all threads are idle,
+ * the bytes are those of the same operations one after the other, in that order.
+ * Both are proved.
  *
  * WHAT COMES BACK
  *

@@ -1,4 +1,4 @@
--- 01, "Numbers given back": the table, each number named once.
+-- 01, "Numbers given back": the table, each number named once. The code's constants for these are those of `crates/calls/src/lib.rt`.
 use Prim.Native.Nat.{ℕ, _+_, _*_}
 
 abbrev pub WENT : ℕ

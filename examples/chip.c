@@ -85,13 +85,19 @@ static void header_of_q(uint32_t thread)
     program_header(kernelsun_register_q(area, thread), kernelsun_register_h(area, thread));
 }
 
-/* A block that has a content can't take another: its number was written before. */
+/*
+ * A block that has a content can't have another put over it: its number was
+ * written before. The header is asked for by itself, as the plug may have been
+ * pulled between the two.
+ */
 static void content_of_p(uint32_t thread)
 {
     uint32_t p = kernelsun_register_p(area, thread);
     if (chip[p].has_content) {
         erase(p);
         rewrites[p]++;
+    }
+    if (!chip[p].has_header) {
         header_of_p(thread);
     }
     program_content(p, kernelsun_register_c(area, thread));
@@ -131,6 +137,33 @@ static void act(const char *label, uint32_t thread)
     }
 }
 
+/* ---- Holding the chip to the area ---- */
+
+/* After each line. */
+static void compare_headers(void)
+{
+    for (uint32_t p = 0; p < PHYSICAL; p++) {
+        uint32_t n = kernelsun_header(area, p);
+        stop_unless(chip[p].has_header == (n != KERNELSUN_NONE),
+                    "free in one and not in the other");
+        stop_unless(n == KERNELSUN_NONE || chip[p].header == n, "headers differ");
+    }
+}
+
+/* Where no operation is open. */
+static void compare_contents(void)
+{
+    for (uint32_t p = 0; p < PHYSICAL; p++) {
+        stop_unless(kernelsun_header(area, p) == KERNELSUN_NONE ||
+                        chip[p].content == kernelsun_content(area, p),
+                    "contents differ");
+        stop_unless(chip[p].erases == kernelsun_wear(area, p) + rewrites[p],
+                    "an erase is neither wear nor a rewrite");
+    }
+}
+
+/* ---- A step and the chip's part of it ---- */
+
 /* The label is read before the step, which moves the thread on, and the registers after it. */
 static uint32_t step_and_act(uint32_t thread)
 {
@@ -140,23 +173,8 @@ static uint32_t step_and_act(uint32_t thread)
     if (number != KERNELSUN_BLOCKED) {
         act(label, thread);
     }
+    compare_headers();
     return number;
-}
-
-/* ---- Holding the chip to the area ---- */
-
-static void compare(void)
-{
-    for (uint32_t p = 0; p < PHYSICAL; p++) {
-        uint32_t n = kernelsun_header(area, p);
-        stop_unless(chip[p].has_header == (n != KERNELSUN_NONE),
-                    "free in one and not in the other");
-        stop_unless(n == KERNELSUN_NONE ||
-                        (chip[p].header == n && chip[p].content == kernelsun_content(area, p)),
-                    "header or content differ");
-        stop_unless(chip[p].erases == kernelsun_wear(area, p) + rewrites[p],
-                    "an erase is neither wear nor a rewrite");
-    }
 }
 
 /* ---- The plug ---- */
@@ -182,7 +200,7 @@ static void pull_plug(void)
             }
         }
     }
-    compare();
+    compare_contents();
 }
 
 /* ---- The recording ---- */

@@ -9,8 +9,8 @@
  * area.
  *
  * A content is one word here, so the chip's content is that word. Where a block
- * holds a page, let the word be a turn or a checksum, and the driver carry the
- * page: it has a buffer for each thread, which a caller fills before he begins a
+ * holds a page, let the word be a running number or a checksum, and the driver
+ * carry the page: it has a buffer for each thread, which a caller fills before he begins a
  * write, and programs it at W14, fills it from the chip at R4 and L8, and programs
  * it at L11.
  *

@@ -44,8 +44,9 @@
  * begin() opens an operation on an idle thread and does nothing else. Each
  * step() then does one short line of it. Step until KERNELSUN_FINISHED comes
  * back; the value beside it is the operation's answer, and the thread is idle
- * again. KERNELSUN_BLOCKED means that the line waits for a lock that another
- * open operation holds: step the other threads and try again.
+ * again. KERNELSUN_BLOCKED means that the line waits for a lock that isn't free,
+ * in an area of format() since another open operation has it: step the other
+ * threads and try again.
  *
  * In an area that came from format() and was changed by these functions alone,
  * some thread with open work can step while any operation is open: that is
@@ -69,9 +70,11 @@
  *
  * In such an area each finished read, write and unmap has answered as if it had
  * been done at once, at the moment at which it took its last lock: a write and
- * an unmap at their second line, a read at its first. When all threads are idle,
- * the bytes are those of the same operations one after the other, in that order.
- * Both are proved.
+ * an unmap at their second line, a read at its first, a levelling, which changes
+ * no answer, at its sixth or, where it moves nothing, at its first. An operation
+ * that is still open counts from that moment: a read may answer 0 while the
+ * unmap is open. When all threads are idle, the bytes are those of the same
+ * operations one after the other, in that order. Both are proved.
  *
  * WHAT COMES BACK
  *

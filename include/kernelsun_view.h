@@ -10,8 +10,8 @@
  *
  * One that format() made, or on which begin() or step() gave another number than
  * KERNELSUN_SHAPE, or of which kernelsun_viewable() says 1, which looks at length
- * and sizes alone. Of such an area any index may be asked. Where it is not below
- * its size, nothing is read, and what comes back is KERNELSUN_NONE from those
+ * and sizes alone. Of such an area any thread, block and word of a record may be
+ * asked. Where it is not below its size, nothing is read, and what comes back is KERNELSUN_NONE from those
  * functions that can give it, and 0 from the others.
  *
  * As with the calls, nothing may write to the area while it is read. Two readers
@@ -273,8 +273,8 @@ static inline uint32_t kernelsun_line(const uint8_t *area, uint32_t thread)
     return kernelsun_of_thread(area, thread, KERNELSUN_THREAD_LINE);
 }
 
-/* Its registers. begin() sets n and c. Until a line sets p and q they are 0, which is a block's number
-   too, and h is none until then. Of an idle thread each is 0, and h none. */
+/* Its registers. begin() sets n and c where the operation uses them. A register that is not yet set is
+   0, which is a block's number too, and h is none then. Of an idle thread each is 0, and h none. */
 static inline uint32_t kernelsun_register_n(const uint8_t *area, uint32_t thread)
 {
     return kernelsun_of_thread(area, thread, KERNELSUN_THREAD_N);

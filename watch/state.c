@@ -85,23 +85,14 @@ static void show_waits(const uint8_t *area)
     end_entries(name, 0);
 }
 
-static void show_locks(const uint8_t *area)
+/* Locks that are held, or blocks that are owned, and by whom. */
+static void show_held(const char *what, const uint8_t *area, uint32_t count,
+                      uint32_t (*holder)(const uint8_t *area, uint32_t index))
 {
-    size_t name = begin_entries("locks");
-    for (uint32_t n = 0; n < kernelsun_n(area); n++) {
-        if (kernelsun_lock(area, n) != KERNELSUN_NONE) {
-            add(" %u:t%u", (unsigned)n, (unsigned)kernelsun_lock(area, n));
-        }
-    }
-    end_entries(name, 0);
-}
-
-static void show_owners(const uint8_t *area)
-{
-    size_t name = begin_entries("owners");
-    for (uint32_t p = 0; p < kernelsun_p(area); p++) {
-        if (kernelsun_owner(area, p) != KERNELSUN_NONE) {
-            add(" %u:t%u", (unsigned)p, (unsigned)kernelsun_owner(area, p));
+    size_t name = begin_entries(what);
+    for (uint32_t i = 0; i < count; i++) {
+        if (holder(area, i) != KERNELSUN_NONE) {
+            add(" %u:t%u", (unsigned)i, (unsigned)holder(area, i));
         }
     }
     end_entries(name, 0);
@@ -175,8 +166,8 @@ void show_state(const uint8_t *area)
     show_holder("headers", kernelsun_headers_owner(area));
     show_threads(area);
     show_waits(area);
-    show_locks(area);
-    show_owners(area);
+    show_held("locks", area, kernelsun_n(area), kernelsun_lock);
+    show_held("owners", area, kernelsun_p(area), kernelsun_owner);
     show_map(area);
     show_headers(area);
     show_worn(area);

@@ -89,7 +89,7 @@ static inline uint32_t map_to(const machine *m, uint32_t entry)
     return KERNELSUN_WENT;
 }
 
-/* W3, R2 and U3: p becomes the block of a mapped number; where to go on from each. */
+/* W3, R2 and U3: p becomes the block of a mapped number; where to go on in either case. */
 static inline uint32_t look_up(machine *m, uint32_t if_mapped, uint32_t if_unmapped)
 {
     uint32_t entry = get(map_place(m, reg(m, KERNELSUN_THREAD_N)));
@@ -98,6 +98,23 @@ static inline uint32_t look_up(machine *m, uint32_t if_mapped, uint32_t if_unmap
     } else {
         set_reg(m, KERNELSUN_THREAD_P, entry - 1);
         m->next = if_mapped;
+    }
+    return KERNELSUN_WENT;
+}
+
+/* One erase more. Wear at its most stays there. */
+static inline void count_erase(const machine *m, uint32_t p)
+{
+    uint32_t wear = get(block_place(m, p, KERNELSUN_BLOCK_WEAR));
+    put(block_place(m, p, KERNELSUN_BLOCK_WEAR), wear + (wear != KERNELSUN_WEAR_MOST));
+}
+
+/* W3 besides counts the erase of the block that is to be rewritten. */
+static inline uint32_t look_up_to_write(machine *m, uint32_t if_mapped, uint32_t if_unmapped)
+{
+    look_up(m, if_mapped, if_unmapped);
+    if (m->next == if_mapped) {
+        count_erase(m, reg(m, KERNELSUN_THREAD_P));
     }
     return KERNELSUN_WENT;
 }
@@ -128,15 +145,14 @@ static inline uint32_t write_header(const machine *m, uint32_t p, uint32_t heade
     return KERNELSUN_WENT;
 }
 
-/* U7 and L13. Wear at its most stays there. */
+/* U7 and L13. */
 static inline uint32_t free_and_wear(const machine *m, uint32_t p)
 {
     if (!may_write_header(m, p)) {
         return KERNELSUN_FAULT;
     }
-    uint32_t wear = get(block_place(m, p, KERNELSUN_BLOCK_WEAR));
     put(block_place(m, p, KERNELSUN_BLOCK_HEADER), 0);
-    put(block_place(m, p, KERNELSUN_BLOCK_WEAR), wear + (wear != KERNELSUN_WEAR_MOST));
+    count_erase(m, p);
     return KERNELSUN_WENT;
 }
 
@@ -257,7 +273,7 @@ static uint32_t write_line(machine *m, uint32_t line)
     switch (line) {
     case 1: return take(m, header_lock(m));
     case 2: return take(m, n_lock(m));
-    case 3: return look_up(m, 12, 4);
+    case 3: return look_up_to_write(m, 12, 4);
     case 4: return own(m, headers_owner(m));
     case 5: return choose_free(m);
     case 6: return own(m, owner_of(m, KERNELSUN_THREAD_P));

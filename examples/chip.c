@@ -109,6 +109,7 @@ static void program_content(uint32_t p, uint32_t c)
 /* ---- The driver: a line's part for the chip, which may be done again ---- */
 
 static uint32_t uncounted[PHYSICAL]; /* erases that the layer's wear does not count */
+static int is_due[PHYSICAL];         /* an erase that W3 counts, and that is done at W14 */
 
 static void erase_uncounted(uint32_t p)
 {
@@ -129,11 +130,22 @@ static void put_header(uint32_t p, uint32_t n)
     program_header(p, n);
 }
 
+/* The erase that W3 counted; where power went after it and it is done again, one that it didn't. */
+static void erase_to_rewrite(uint32_t p)
+{
+    if (is_due[p]) {
+        erase(p);
+        is_due[p] = 0;
+    } else {
+        erase_uncounted(p);
+    }
+}
+
 /* A content can't be put over another. Power may have gone between erase and header. */
 static void put_content(uint32_t p, uint32_t n, uint32_t c)
 {
     if (chip[p].has_content) {
-        erase_uncounted(p);
+        erase_to_rewrite(p);
     }
     if (!chip[p].has_header) {
         program_header(p, n);
@@ -255,10 +267,20 @@ static void save(void)
     memcpy(saved, area, sizeof area);
 }
 
+/* Before a thread's line: where that is W3, it counts the erase of its number's block. */
+static void note_rewrite(uint32_t thread)
+{
+    uint32_t p = kernelsun_map(area, kernelsun_register_n(area, thread));
+    if (strcmp(kernelsun_thread_label(area, thread), "W3") == 0 && p != KERNELSUN_NONE) {
+        is_due[p] = 1;
+    }
+}
+
 /* The line is looked at before the step, which moves the thread on, and the registers after it. */
 static uint32_t step_and_act(uint32_t thread)
 {
     const part *its = part_of(thread);
+    note_rewrite(thread);
     uint32_t number = kernelsun_number(step(area, sizeof area, thread));
     stop_unless(number <= KERNELSUN_BLOCKED, kernelsun_name(number));
     if (number != KERNELSUN_BLOCKED && its != NULL) {

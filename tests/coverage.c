@@ -9,19 +9,19 @@ static unsigned long by_call[CALLS][NUMBERS];
 static unsigned long by_line[KERNELSUN_LEVEL + 1][LINES_MOST + 1][NUMBERS];
 
 enum {
-    W3_MAPPED, W3_UNMAPPED, W5_BEYOND_FIRST, R2_MAPPED, R2_UNMAPPED, R6_NOT_0, U3_MAPPED,
+    W3_MAPPED, W3_STAYS, W3_UNMAPPED, W5_BEYOND_FIRST, R2_MAPPED, R2_UNMAPPED, R6_NOT_0, U3_MAPPED,
     U3_UNMAPPED, U7_STAYS, L5_FREE, L5_USED, L13_STAYS, L18_MOVED, L18_NOTHING, L3_MOVES,
     L3_NOTHING_MAPPED, L3_TOO_NEAR, L3_JUST_ENOUGH, L3_TIE_OF_FROM, L3_TIE_OF_TO, L3_BEYOND,
     BY_ITSELF, BY_ANOTHER, NO_FREE_BLOCK, ACTS
 };
 
 static const char *const act_names[ACTS] = {
-    "W3 mapped", "W3 unmapped", "W5 beyond the first block", "R2 mapped", "R2 unmapped",
-    "R6 with a value that isn't 0", "U3 mapped", "U3 unmapped", "U7 wear stays at most",
-    "L5 free", "L5 not free", "L13 wear stays at most", "L18 moved", "L18 nothing moved",
-    "L3 moves", "L3 nothing mapped", "L3 too near", "L3 just far enough", "L3 tie of from",
-    "L3 tie of to", "L3 sum beyond 32 bits", "blocked by itself", "blocked by another",
-    "FAULT for want of a free block",
+    "W3 mapped", "W3 wear stays at most", "W3 unmapped", "W5 beyond the first block", "R2 mapped",
+    "R2 unmapped", "R6 with a value that isn't 0", "U3 mapped", "U3 unmapped",
+    "U7 wear stays at most", "L5 free", "L5 not free", "L13 wear stays at most", "L18 moved",
+    "L18 nothing moved", "L3 moves", "L3 nothing mapped", "L3 too near", "L3 just far enough",
+    "L3 tie of from", "L3 tie of to", "L3 sum beyond 32 bits", "blocked by itself",
+    "blocked by another", "FAULT for want of a free block",
 };
 
 static unsigned long acts[ACTS];
@@ -39,10 +39,15 @@ static int is_at(const met *m, uint32_t op, uint32_t line)
     return m->op == op && m->line == line;
 }
 
+static int has_jumped(const met *m)
+{
+    return kernelsun_line(m->after->bytes, m->thread) != m->line + 1;
+}
+
 static void count_branches(const met *m)
 {
     const uint8_t *after = m->after->bytes;
-    int jumped = kernelsun_line(after, m->thread) != m->line + 1;
+    int jumped = has_jumped(m);
     if (is_at(m, KERNELSUN_WRITE, 3)) {
         acts[jumped ? W3_MAPPED : W3_UNMAPPED]++;
     } else if (is_at(m, KERNELSUN_READ, 2)) {
@@ -56,11 +61,13 @@ static void count_branches(const met *m)
     }
 }
 
+/* p after the step is the block that is worn, since W3 sets it and the others keep it. */
 static void count_wear(const met *m)
 {
     const uint8_t *before = m->before->bytes;
-    uint32_t p = kernelsun_register_p(before, m->thread);
+    uint32_t p = kernelsun_register_p(m->after->bytes, m->thread);
     if (kernelsun_wear(before, p) == KERNELSUN_WEAR_MOST) {
+        acts[W3_STAYS] += is_at(m, KERNELSUN_WRITE, 3) && has_jumped(m);
         acts[U7_STAYS] += is_at(m, KERNELSUN_UNMAP, 7);
         acts[L13_STAYS] += is_at(m, KERNELSUN_LEVEL, 13);
     }

@@ -343,13 +343,15 @@ static void check_step_counts(void)
     expect_whole(&a, KERNELSUN_WRITE, 0, 5, 16, 0);
     static const uint32_t written[30] = {2, 1, 2, 1, [20] = 1, [22] = 1, 5};
     expect_words(&a, written, COUNT(written));
-    about("second write of a number");
+    about("second write of a number, and what it left");
     expect_whole(&a, KERNELSUN_WRITE, 0, MOST, 8, 0);
+    static const uint32_t rewritten[30] = {2, 1, 2, 1, [20] = 1, [22] = 1, MOST, 1};
+    expect_words(&a, rewritten, COUNT(rewritten));
     about("read of a mapped number");
     expect_whole(&a, KERNELSUN_READ, 0, 0, 6, MOST);
     about("unmap of a mapped number, and what it left");
     expect_whole(&a, KERNELSUN_UNMAP, 0, 0, 11, 0);
-    static const uint32_t unmapped[30] = {2, 1, 2, 1, [23] = MOST, 1};
+    static const uint32_t unmapped[30] = {2, 1, 2, 1, [23] = MOST, 2};
     expect_words(&a, unmapped, COUNT(unmapped));
     about("a written 0");
     expect_whole(&a, KERNELSUN_WRITE, 0, 0, 16, 0);
@@ -385,6 +387,46 @@ static void check_levelling_case(void)
     about("the levelling case with D=3 has nothing to move");
     make_levelling_case(&a, 3);
     expect_whole(&a, KERNELSUN_LEVEL, 0, 0, 7, 0);
+}
+
+/* Numbers 0 and 1 on blocks 0 and 1, rewritten so often each; then number 0 is unmapped. */
+static void make_rewritten(area *a, uint32_t d, uint32_t first, uint32_t second)
+{
+    make_fresh(a, 1, 2, 3, d);
+    expect_whole(a, KERNELSUN_WRITE, 0, 7, 16, 0);
+    expect_whole(a, KERNELSUN_WRITE, 1, 9, 16, 0);
+    for (uint32_t i = 0; i < first; i++) {
+        expect_whole(a, KERNELSUN_WRITE, 0, i, 8, 0);
+    }
+    for (uint32_t i = 0; i < second; i++) {
+        expect_whole(a, KERNELSUN_WRITE, 1, i, 8, 0);
+    }
+    expect_whole(a, KERNELSUN_UNMAP, 0, 0, 11, 0);
+}
+
+/* Rewriting number 0 brings levelling to move number 1 there; rewriting number 1 keeps it off. */
+static void check_rewritten(uint32_t d, uint32_t first, uint32_t second)
+{
+    static area a;
+    int moves = first + 1 >= second + d;
+    make_rewritten(&a, d, first, second);
+    expect_equal("wear of 0", kernelsun_wear(a.bytes, 0), first + 1);
+    expect_equal("wear of 1", kernelsun_wear(a.bytes, 1), second);
+    expect_whole(&a, KERNELSUN_LEVEL, 0, 0, moves ? 18 : 7, moves ? 1 : 0);
+    expect_equal("block of 1", kernelsun_map(a.bytes, 1), moves ? 0 : 1);
+    expect_whole(&a, KERNELSUN_READ, 1, 0, 6, second == 0 ? 9 : second - 1);
+}
+
+static void check_rewrites(void)
+{
+    about("numbers rewritten until levelling moves one");
+    for (uint32_t d = 1; d <= 3; d++) {
+        for (uint32_t first = 0; first <= 5; first++) {
+            for (uint32_t second = 0; second <= 3; second++) {
+                check_rewritten(d, first, second);
+            }
+        }
+    }
 }
 
 /* ---- choosing ---- */
@@ -568,6 +610,7 @@ int main(void)
     check_begun();
     check_step_counts();
     check_levelling_case();
+    check_rewrites();
     check_choices();
     check_second_reader_waits();
     check_second_writer_waits();

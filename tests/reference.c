@@ -153,6 +153,15 @@ static uint32_t wear_of(const machine *m, uint32_t p)
     return block(m, p, KERNELSUN_BLOCK_WEAR);
 }
 
+/* One erase more. Wear at its most stays there. */
+static void count_erase(machine *m, uint32_t p)
+{
+    uint32_t wear = wear_of(m, p);
+    if (wear != KERNELSUN_WEAR_MOST) {
+        set_block(m, p, KERNELSUN_BLOCK_WEAR, wear + 1);
+    }
+}
+
 /* ---- Acts on locks and owners ---- */
 
 static uint32_t take(machine *m, size_t lock)
@@ -211,12 +220,13 @@ static uint32_t map_to(machine *m, uint32_t entry)
     return KERNELSUN_WENT;
 }
 
-/* W3: a mapped number goes on at `there` with p as its block. */
-static uint32_t if_mapped_go(machine *m, uint32_t there)
+/* W3: a mapped number goes on at `there` with p as its block, whose erase is counted. */
+static uint32_t if_mapped_wear_and_go(machine *m, uint32_t there)
 {
     uint32_t entry = mapped(m);
     if (entry != 0) {
         set_reg(m, KERNELSUN_THREAD_P, entry - 1);
+        count_erase(m, entry - 1);
         m->next = there;
     }
     return KERNELSUN_WENT;
@@ -254,13 +264,12 @@ static uint32_t write_header(machine *m, uint32_t p, uint32_t header)
     return KERNELSUN_WENT;
 }
 
-/* U7 and L13. Wear at its most stays there. */
+/* U7 and L13. */
 static uint32_t free_and_wear(machine *m, uint32_t p)
 {
     uint32_t number = write_header(m, p, 0);
-    uint32_t wear = wear_of(m, p);
-    if (number == KERNELSUN_WENT && wear != KERNELSUN_WEAR_MOST) {
-        set_block(m, p, KERNELSUN_BLOCK_WEAR, wear + 1);
+    if (number == KERNELSUN_WENT) {
+        count_erase(m, p);
     }
     return number;
 }
@@ -378,7 +387,7 @@ static uint32_t write_line(machine *m, uint32_t line)
     switch (line) {
     case 1: return take(m, KERNELSUN_AT_LOCK);
     case 2: return take(m, n_lock(m));
-    case 3: return if_mapped_go(m, 12);
+    case 3: return if_mapped_wear_and_go(m, 12);
     case 4: return own(m, KERNELSUN_AT_OWNER);
     case 5: return choose_free(m);
     case 6: return own(m, owner_of(m, KERNELSUN_THREAD_P));

@@ -7,7 +7,7 @@ ghost use Prim.Native.Nat.{_+_, _<_, _≤_};
 ghost use Rattle.meaning.specs.Limits.{mostWord};
 ghost use Rattle.meaning.specs.Holding.{named as namedOf};
 ghost use Rattle.meaning.specs.Programs.{actAt, lastLine};
-ghost use Rattle.meaning.specs.Step.{goto as gotoOf, onward as onwardOf, setN, setC, setP, setQ, setH, block as blockOf, effect as effectOf, nothing as nothingOf, onLock, onOwner, onMap, onLocks, onHeader, onContent, onFreed, onOwn, need as needOf, take as takeOf, next as nextOf, branch as branchOf, worn as wornOf, moved as movedOf, answer as answerOf};
+ghost use Rattle.meaning.specs.Step.{goto as gotoOf, onward as onwardOf, setN, setC, setP, setQ, setH, block as blockOf, effect as effectOf, nothing as nothingOf, onLock, onOwner, onMap, onLocks, onHeader, onContent, onWear, onFreed, onOwn, need as needOf, take as takeOf, next as nextOf, branch as branchOf, worn as wornOf, moved as movedOf, answer as answerOf};
 use meaning::Act;
 use meaning::Answer;
 use meaning::Effect;
@@ -236,6 +236,12 @@ pub fn on_content(m: u32, w: u32) -> Effect
     ensures { λ e. ⌜ e ≡ onContent m w ⌝ }
 {
     effect(Stay, Stay, Keep, Keep, Keep, Put(m, w), Keep, Keep)
+}
+
+pub fn on_wear(m: u32, w: u32) -> Effect
+    ensures { λ e. ⌜ e ≡ onWear m w ⌝ }
+{
+    effect(Stay, Stay, Keep, Keep, Keep, Keep, Put(m, w), Keep)
 }
 
 pub fn on_freed(m: u32, w: u32) -> Effect

@@ -9,8 +9,8 @@
 --  * after-U10-comes: a read finishes with empty when U10 is done and U11 isn't, and stands after the unmap in the order.
 --  * reuse-comes, reuse-grown: an area grown from fresh at W8 of a write whose block still holds what was written before it was freed; W8
 --    empties it, and it is empty until W14.
---  * largest-wear-stays, finished-with, ties-chosen: on areas made by hand, U7 and L13 leave the largest wear as it is, and the one below goes up to
---    it; what each operation finishes with, with 7 in register c; and L3 chooses the lowest numbers on ties.
+--  * largest-wear-stays, rewriting-wears, finished-with, ties-chosen: on areas made by hand, U7 and L13 leave the largest wear as it is, and the one
+--    below goes up to it; W3 wears the block that the map names, and no other; what each operation finishes with, with 7 in register c; and L3 chooses the lowest numbers on ties.
 -- Assumes nothing.
 use mathlib.Core.Path.{_≡_, refl}
 use mathlib.Core.Bool.{Bool, true, _&&_}
@@ -30,7 +30,7 @@ use Rattle.store.specs.Layout.{size}
 use Rattle.store.specs.Area.{Bytes, wellFormed}
 use Rattle.store.specs.Calls.{format, callArea, Grown}
 use Rattle.demands.specs.NeedSamples.{lineNeeds, allGiven, allWanted}
-use Rattle.demands.specs.Reached.{Meeting, formed, reached, meet, meetings, Each, overlap, overtaking, overtaken, slipping, slipped, contents, reusing, reused, freedFrom, finishedWith, tied, choice}
+use Rattle.demands.specs.Reached.{Meeting, formed, reached, meet, meetings, Each, overlap, overtaking, overtaken, slipping, slipped, contents, reusing, reused, freedFrom, lookedUp, finishedWith, tied, choice}
 use Rattle.demands.specs.History.{AllWords}
 use Rattle.demands.proofs.Bridge.{run-grown}
 
@@ -125,6 +125,20 @@ pub largest-wear-stays :
     ≡ 4294967295 ∷ 4294967295 ∷ 4294967295 ∷ 4294967295 ∷ []
 unfolding wellFormed
 largest-wear-stays = refl
+
+-- W3 wears the block that the map names, whosever it is: none; the free one; number 1's; the last, number 0's; and the last with the wear below the
+-- largest, and with the largest
+pub rewriting-wears :
+    lookedUp 0 6 ∷ lookedUp 1 6 ∷ lookedUp 2 6 ∷ lookedUp 3 6 ∷ lookedUp 3 4294967294 ∷ lookedUp 3 4294967295 ∷ []
+    ≡ (0 ∷ 4 ∷ 1 ∷ 4 ∷ 5 ∷ 6 ∷ [])
+    ∷ (0 ∷ 12 ∷ 0 ∷ 5 ∷ 5 ∷ 6 ∷ [])
+    ∷ (0 ∷ 12 ∷ 1 ∷ 4 ∷ 6 ∷ 6 ∷ [])
+    ∷ (0 ∷ 12 ∷ 2 ∷ 4 ∷ 5 ∷ 7 ∷ [])
+    ∷ (0 ∷ 12 ∷ 2 ∷ 4 ∷ 5 ∷ 4294967295 ∷ [])
+    ∷ (0 ∷ 12 ∷ 2 ∷ 4 ∷ 5 ∷ 4294967295 ∷ [])
+    ∷ []
+unfolding wellFormed
+rewriting-wears = refl
 
 -- W16, R6 and U11, and L18 where nothing was moved and where something was
 pub finished-with :

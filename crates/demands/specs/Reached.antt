@@ -233,6 +233,25 @@ abbrev pub freedFrom : ℕ → ℕ → ℕ → ℕ
 freedFrom op line wear =
     decode (stepArea (bytes (with (made 1 op line) ((headerAt inP + 2, wear) ∷ []))) 0 .after) .wear inP
 
+-- three blocks: 0 is free, 1 is number 1's, and 2, the last, number 0's; their wear is 4, 5 and x. Thread 0 is at W3 with number 0, whose word of the
+-- map is w, and with 1 in register p; it holds and owns nothing
+abbrev pub lookingUp : ℕ → ℕ → List ℕ
+lookingUp w x =
+    1 ∷ 2 ∷ 3 ∷ 1 ∷ 0 ∷ 0  -- the four sizes, H and the headers' owner
+    ∷ WRITE ∷ 3 ∷ 0 ∷ 7 ∷ 1 ∷ 0 ∷ 0  -- thread 0
+    ∷ w ∷ 2 ∷ 0 ∷ 0  -- number 1 is on block 1; the locks are free
+    ∷ 0 ∷ 0 ∷ 4 ∷ 0
+    ∷ 2 ∷ 0 ∷ 5 ∷ 0
+    ∷ 1 ∷ 0 ∷ x ∷ 0
+    ∷ []
+
+-- the number of its step; then line and p after it, and the wear of the three blocks
+abbrev pub lookedUp : ℕ → ℕ → List ℕ
+lookedUp w x =
+    let y = stepArea (bytes (lookingUp w x)) 0 in
+    let s = decode (y .after) in
+    y .number ∷ s .thread 0 .line ∷ s .thread 0 .p ∷ s .wear 0 ∷ s .wear 1 ∷ s .wear 2 ∷ []
+
 -- number and value of a step of thread 0 at a line, with 7 in register c and this in register h
 abbrev pub finishedWith : ℕ → ℕ → ℕ → ℕ × ℕ
 finishedWith op line h =

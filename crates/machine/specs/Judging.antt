@@ -6,13 +6,14 @@ use Prim.Native.Nat.{ℕ, _<_, _≤_}
 use Rattle.meaning.specs.declared.Thread.{Thread}
 use Rattle.meaning.specs.declared.Found.{Found}
 use Rattle.meaning.specs.declared.Found.the-variants.{Nobody, At}
+use Rattle.meaning.specs.Table.{below}
 use Rattle.meaning.specs.Limits.{mostThreads, mostNumbers, mostBlocks, mostWord}
 use Rattle.meaning.specs.Store.{Store}
 use Rattle.meaning.specs.Programs.{LEVEL, lastLine}
 use Rattle.meaning.specs.declared.Verdict.{Verdict}
 use Rattle.meaning.specs.declared.Reg.{Reg}
 use Rattle.meaning.specs.declared.Reg.the-variants.{P, Q}
-use Rattle.meaning.specs.Holding.{free}
+use Rattle.meaning.specs.Holding.{free, named}
 use Rattle.meaning.specs.Choosing.{lowestFree, toBlock, leastWorn}
 use Rattle.meaning.specs.Step.{need, next, setP, choosing, nothing}
 use Rattle.machine.specs.declared.Near.{Near}
@@ -40,6 +41,7 @@ pub record Sees (s : Store) (r : Thread) (x : Near) : Type 0 where
   pub wear-p : x .«wear_p» ≡ s .wear (r .p)
   pub own-p : x .«own_p» ≡ s .own (r .p)
   pub own-q : x .«own_q» ≡ s .own (r .q)
+  pub wear-n : x .«wear_n» ≡ s .wear (named (s .map (r .n)))
 
 -- and what the searches look at
 pub record Searches (s : Store) (header wear : ℕ → ℕ) : Type 0 where
@@ -62,6 +64,7 @@ nearOf r blocks distance lock owner map locks header content wear own =
       «wear_p» = wear (r .p);
       «own_p» = own (r .p);
       «own_q» = own (r .q);
+      «wear_n» = below 0 mostBlocks wear (named (map (r .n)));
     }
 
 -- W5's verdict where the headers are owned, of the headers and how many blocks there are

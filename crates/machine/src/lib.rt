@@ -3,11 +3,12 @@
 // specs/Step.antt.
 ghost use mathlib.Core.Path.{_≡_};
 ghost use Prim.Native.Nat.{_<_, _≤_};
+ghost use Rattle.meaning.specs.Table.{below};
 ghost use Rattle.meaning.specs.Store.{Store as StoreOf};
 ghost use Rattle.meaning.specs.Limits.{mostNumbers, mostBlocks, mostWord};
 ghost use Rattle.meaning.specs.Programs.{actAt};
 ghost use Rattle.meaning.specs.Choosing.{lowestFree, toBlock, leastWorn, fromBlock};
-ghost use Rattle.meaning.specs.Step.{perform, apply as applyOf};
+ghost use Rattle.meaning.specs.Step.{toRewrite, perform, apply as applyOf};
 ghost use Rattle.store.specs.Live.{table, Live, EntryBelow, withEffect};
 ghost use Rattle.machine.specs.Settling.{EffectInside, Stored, unblocked, onBlocks};
 ghost use Rattle.store.specs.Area.{decode};
@@ -28,6 +29,7 @@ use acts::on_locks;
 use acts::on_map;
 use acts::on_own;
 use acts::on_owner;
+use acts::on_wear;
 use acts::onward;
 use acts::set_c;
 use acts::set_h;
@@ -48,11 +50,12 @@ use meaning::Update;
 use meaning::Verdict;
 use meaning::Verdict::Done;
 use meaning::Verdict::Fault;
+use meaning::Verdict::Go;
 use meaning::Word;
 use store::Store;
 
 // What a line may look at, the searches' tables left out: how many blocks there are, the levelling distance, and the words of H, of
-// the headers' owner, of number n and of blocks p and q.
+// the headers' owner, of number n and of blocks p and q; and the wear of the block that n is mapped to.
 struct Near {
     pub blocks: u32,
     pub distance: u32,
@@ -66,6 +69,7 @@ struct Near {
     pub wear_p: u32,
     pub own_p: u32,
     pub own_q: u32,
+    pub wear_n: u32,
 }
 
 // A word for each block: the headers, the contents, the wear or the owners.
@@ -232,6 +236,18 @@ fn pick(header: &Blocks, blocks: u32, r: Thread) -> Verdict
     need(p < blocks, next(set_p(p, r), nothing()))
 }
 
+// W3, where `map` is n's word of the map and `wear` that of the block that it names.
+fn to_rewrite(l: u32, map: u32, wear: u32, r: Thread) -> Verdict
+    requires { ⌜ r .line < mostWord ⌝ }
+    ensures { λ v. ⌜ v ≡ toRewrite l map wear r ⌝ }
+{
+    if map == 0 {
+        return next(r, nothing());
+    }
+    let p = named(map);
+    Go(set_p(p, goto(l, r)), on_wear(p, worn(wear)))
+}
+
 // What the act would do: an arm an act, as in specs/Step.antt. `me` is the word of what thread t holds or owns.
 fn judge_act<'a>(
     act: Act,
@@ -257,7 +273,7 @@ fn judge_act<'a>(
         LetGoHeaders => need(x.owner == me, next(r, on_owner(0))),
         Own(b) => need(own_of(x, b) == 0, next(r, on_own(block(b, r), me))),
         LetGo(b) => need(own_of(x, b) == me, next(r, on_own(block(b, r), 0))),
-        GoIfMapped(l) => branch(x.map, onward(r), set_p(named(x.map), goto(l, r))),
+        GoIfMapped(l) => to_rewrite(l, x.map, x.wear_n, r),
         GoIfUnmapped(l) => branch(x.map, goto(l, r), set_p(named(x.map), onward(r))),
         EmptyIfUnmapped(l) => branch(x.map, set_c(0, goto(l, r)), set_p(named(x.map), onward(r))),
         GoIfFree(l) => branch(r.h, goto(l, r), set_n(named(r.h), onward(r))),
@@ -273,6 +289,14 @@ fn judge_act<'a>(
         MapTo(b) => next(r, on_map(r.n, block(b, r) + 1)),
         Unmap => next(r, on_map(r.n, 0)),
     }
+}
+
+// The word of block m, and 0 past the last block that there may be.
+fn word_of(words: &Blocks, m: u32) -> u32
+    ensures { λ x. ⌜ x ≡ below 0 mostBlocks (table (now (words .entry))) m ⌝ }
+{
+    let i = m as usize;
+    if i < Store::MAX_P { words[i] } else { 0 }
 }
 
 // The words that a line of record r may look at.
@@ -308,6 +332,7 @@ fn words_near<'a>(
         wear_p: wear[p],
         own_p: own[p],
         own_q: own[q],
+        wear_n: word_of(wear, named(map[n])),
     }
 }
 

@@ -26,7 +26,7 @@ use Rattle.meaning.specs.declared.Verdict.{Verdict}
 use Rattle.meaning.specs.declared.Verdict.the-variants.{Blocked, Fault, Go, Done}
 use Rattle.meaning.specs.Table.{every}
 use Rattle.meaning.specs.Store.{Store, idle}
-use Rattle.meaning.specs.Holding.{free, heldBy}
+use Rattle.meaning.specs.Holding.{free, heldBy, named}
 use Rattle.meaning.specs.Step.{onward, setC, block, nothing, worn, answer, touches, heads, perform}
 use Rattle.meaning.specs.Needs.{Need, met, allMet, Asks, takes-H, takes-N, needs, no-line, asks, fails, waits}
 use Rattle.meaning.proofs.Base.Words.{either-way, clash, every-at, all-every, and-left, and-right, named-below}
@@ -42,15 +42,17 @@ pub data Sight : Type 0 where
   all-wear : Sight
   content-of-p : Sight
 
--- which block it wears
+-- which block it wears; block-of-n is the one that n is mapped to, if there is one
 pub data Wears : Type 0 where
   no-block : Wears
   block-p : Wears
+  block-of-n : Wears
 
 -- what that does to wear, of store s and a thread with record r
 abbrev pub wearing : Wears → Store → Thread → Update
 wearing no-block s r = Keep
 wearing block-p s r = Put (r .p) (worn (s .wear (r .p)))
+wearing block-of-n s r = cond (free (s .map (r .n))) Keep (Put (named (s .map (r .n))) (worn (s .wear (named (s .map (r .n))))))
 
 pub record Shape : Type 0 where
   -- its line ends the operation, with this answer
@@ -92,6 +94,9 @@ reads = shaped true true false no-block (λ line. line + 1) (content-of-p ∷ []
 abbrev jumps : ℕ → Shape
 jumps l = shaped true true true no-block (λ line. l) (map-of-n ∷ [])
 
+abbrev rewrites : ℕ → Shape
+rewrites l = shaped false true true block-of-n (λ line. l) (map-of-n ∷ all-wear ∷ [])
+
 abbrev empties : ℕ → Shape
 empties l = shaped true true false no-block (λ line. l) (map-of-n ∷ [])
 
@@ -110,7 +115,7 @@ shape OwnHeaders = onwards
 shape LetGoHeaders = onwards
 shape (Own b) = onwards
 shape (LetGo b) = onwards
-shape (GoIfMapped l) = jumps l
+shape (GoIfMapped l) = rewrites l
 shape (GoIfUnmapped l) = jumps l
 shape (EmptyIfUnmapped l) = empties l
 shape (GoIfFree l) = names l
@@ -175,10 +180,14 @@ pub record LowWords (most : ℕ) (r : Thread) (e : Effect) : Type 0 where
 pub wearing-bounded : (w : Wears) (s : Store) (t : ℕ) (r : Thread) → NearBounded s t r → Puts (wearing w s r) (λ m x. m < s .blocks)
 wearing-bounded no-block s t r N = tt
 wearing-bounded block-p s t r N = N .p
+wearing-bounded block-of-n s t r N =
+    either-way (free (s .map (r .n))) (λ f. rw f tt) (λ f. rw f (named-below (s .map (r .n)) (s .blocks) f (N .map)))
 
 pub wearing-low : (w : Wears) (s : Store) (r : Thread) (most : ℕ) → NearWords s r most → Puts (wearing w s r) (λ m x. x ≤ most)
 wearing-low no-block s r most N = tt
 wearing-low block-p s r most N = N .wear (r .p)
+wearing-low block-of-n s r most N =
+    either-way (free (s .map (r .n))) (λ f. rw f tt) (λ f. rw f (N .wear (named (s .map (r .n)))))
 
 -- ---- what an act comes to
 
@@ -395,7 +404,7 @@ module _ (s s′ : Store) (t : ℕ) (r : Thread) (blocks : s′ .blocks ≡ s .b
   deeds LetGoHeaders l g g′ = rw (g .0, g′ .0)
   deeds (Own b) l g g′ = rw (g .0, g′ .0)
   deeds (LetGo b) l g g′ = rw (g .0, g′ .0)
-  deeds (GoIfMapped k) l g g′ = rw (l .0)
+  deeds (GoIfMapped k) l g g′ = rw (l .0, l .1 .0)
   deeds (GoIfUnmapped k) l g g′ = rw (l .0)
   deeds (EmptyIfUnmapped k) l g g′ = rw (l .0)
   deeds (GoIfFree k) l g g′ = refl

@@ -11,7 +11,7 @@ abbrev pub writing : List Act
 writing =
     TakeH  -- W1 take H
     ∷ TakeN  -- W2 take n.lock
-    ∷ GoIfMapped 12  -- W3 if n is mapped, p becomes its block and go to W12
+    ∷ GoIfMapped 12  -- W3 if n is mapped, p becomes its block, wear of p up by one, and go to W12
     ∷ OwnHeaders  -- W4 own headers
     ∷ PickFree  -- W5 p becomes the lowest-numbered free block
     ∷ Own P  -- W6 own p

@@ -82,6 +82,9 @@ onHeader m w = effect Stay Stay Keep Keep (Put m w) Keep Keep Keep
 abbrev pub onContent : ℕ → ℕ → Effect
 onContent m w = effect Stay Stay Keep Keep Keep (Put m w) Keep Keep
 
+abbrev pub onWear : ℕ → ℕ → Effect
+onWear m w = effect Stay Stay Keep Keep Keep Keep (Put m w) Keep
+
 -- a block freed, with its wear
 abbrev pub onFreed : ℕ → ℕ → Effect
 onFreed m w = effect Stay Stay Keep Keep (Put m none) Keep (Put m w) Keep
@@ -128,6 +131,11 @@ touches s t m = heldBy t (s .own m) && not (free (s .header m))
 abbrev pub heads : Store → ℕ → ℕ → Bool
 heads s t m = heldBy t (s .owner) && heldBy t (s .own m)
 
+-- W3, where w is n's word of the map and x the wear of the block that it names: on where n is unmapped, else p becomes that block and its wear
+-- is up by one (document 02, §1: the chip can't overwrite, so that a rewrite is an erase)
+abbrev pub toRewrite : ℕ → ℕ → ℕ → Thread → Verdict
+toRewrite l w x r = cond (free w) (next r nothing) (Go (setP (named w) (goto l r)) (onWear (named w) (worn x)))
+
 -- L3 where `to` and the least worn mapped block are found
 abbrev pub choosing : (ℕ → ℕ) → ℕ → Thread → Found → Found → Verdict
 choosing wear distance r Nobody from = Fault
@@ -146,7 +154,7 @@ perform OwnHeaders s t r = need (free (s .owner)) (next r (onOwner (by t)))
 perform LetGoHeaders s t r = need (heldBy t (s .owner)) (next r (onOwner none))
 perform (Own b) s t r = need (free (s .own (block b r))) (next r (onOwn (block b r) (by t)))
 perform (LetGo b) s t r = need (heldBy t (s .own (block b r))) (next r (onOwn (block b r) none))
-perform (GoIfMapped l) s t r = branch (s .map (r .n)) (onward r) (setP (named (s .map (r .n))) (goto l r))
+perform (GoIfMapped l) s t r = toRewrite l (s .map (r .n)) (s .wear (named (s .map (r .n)))) r
 perform (GoIfUnmapped l) s t r = branch (s .map (r .n)) (goto l r) (setP (named (s .map (r .n))) (onward r))
 perform (EmptyIfUnmapped l) s t r = branch (s .map (r .n)) (setC 0 (goto l r)) (setP (named (s .map (r .n))) (onward r))
 perform (GoIfFree l) s t r = branch (r .h) (goto l r) (setN (named (r .h)) (onward r))

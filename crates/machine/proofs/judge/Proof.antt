@@ -162,7 +162,7 @@ returns c =
       own = own .read-blocks4 .ensures ∙ ap (λ from. column (word area) (from + 3) blockWords (a .z .p)) (at .blocks-at .ensures);
     } in
     perform-same (a .t) (a .r)
-    (c .judge-act .ensures (view working) (near-sees working (a .r) (near .words-near .ensures)) (record { header-same = refl; wear-same = refl }))
+    (c .judge-act .ensures (view working) (near-sees (start w .pre .0) loaded (a .r) (near .words-near .ensures)) (record { header-same = refl; wear-same = refl }))
     (at .before .before .before .act-at .ensures) (view-loaded (start w .pre .0) loaded)
 
 pub judge-spec : {M : Type 1} → statement M

@@ -55,16 +55,16 @@ returns-11 : tie.Need-returns-11
 returns-11 c s e g = rw (c .before .before .before .before .before .before .act4 .given .1) (simp (c .need8 .ensures, c .before .next8 .ensures, c .before .before .on-own2 .ensures, c .before .before .before .block2 .ensures, c .before .before .before .before .own-of2 .ensures, ownOf-at e (c .before .before .before .before .before .before .act4 .given .0 .0)))
 
 returns-12 : tie.Need-returns-12
-returns-12 c s e g = rw (c .before .before .before .before .before .before .act5 .given .1) (simp (c .branch .ensures, c .before .set-p .ensures, c .before .before .goto .ensures, c .before .before .before .named .ensures, c .before .before .before .before .onward .ensures, e .map))
+returns-12 c s e g = rw (c .before .before .act5 .given .1) (simp (c .to-rewrite .ensures, e .map, e .wear-n))
 
 returns-13 : tie.Need-returns-13
-returns-13 c s e g = rw (c .before .before .before .before .before .before .act6 .given .1) (simp (c .branch2 .ensures, c .before .set-p2 .ensures, c .before .before .onward2 .ensures, c .before .before .before .named2 .ensures, c .before .before .before .before .goto2 .ensures, e .map))
+returns-13 c s e g = rw (c .before .before .before .before .before .before .act6 .given .1) (simp (c .branch .ensures, c .before .set-p .ensures, c .before .before .onward .ensures, c .before .before .before .named .ensures, c .before .before .before .before .goto .ensures, e .map))
 
 returns-14 : tie.Need-returns-14
-returns-14 c s e g = rw (c .before .before .before .before .before .before .before .act7 .given .1) (simp (c .branch3 .ensures, c .before .set-p3 .ensures, c .before .before .onward3 .ensures, c .before .before .before .named3 .ensures, c .before .before .before .before .set-c .ensures, c .before .before .before .before .before .goto3 .ensures, e .map))
+returns-14 c s e g = rw (c .before .before .before .before .before .before .before .act7 .given .1) (simp (c .branch2 .ensures, c .before .set-p2 .ensures, c .before .before .onward2 .ensures, c .before .before .before .named2 .ensures, c .before .before .before .before .set-c .ensures, c .before .before .before .before .before .goto2 .ensures, e .map))
 
 returns-15 : tie.Need-returns-15
-returns-15 c s e g = rw (c .before .before .before .before .before .before .act8 .given .1) (simp (c .branch4 .ensures, c .before .set-n .ensures, c .before .before .onward4 .ensures, c .before .before .before .named4 .ensures, c .before .before .before .before .goto4 .ensures))
+returns-15 c s e g = rw (c .before .before .before .before .before .before .act8 .given .1) (simp (c .branch3 .ensures, c .before .set-n .ensures, c .before .before .onward3 .ensures, c .before .before .before .named3 .ensures, c .before .before .before .before .goto3 .ensures))
 
 returns-16 : tie.Need-returns-16
 returns-16 c s e g =
@@ -116,17 +116,18 @@ judge-act-spec =
     tie.close
     (tie.spec (λ c. search needs) (λ c. search needs) (λ c. search needs) easy (λ c κs. search needs) easy
     (λ c. search needs) easy (λ c κs. search needs) easy (λ c. search needs) easy easy easy (λ c. search needs) easy
-    (λ c κs. search needs) easy (λ c. search needs) easy (λ c κs. search needs) easy (λ c. search needs) easy easy easy
-    (λ c. search needs) easy (λ c κs. search needs) easy (λ c. search needs) easy (λ c κs. search needs) easy
+    (λ c κs. search needs) easy (λ c. search needs) easy (λ c κs. search needs) easy (λ c. search needs) easy easy
+    easy (λ c. search needs) easy (λ c κs. search needs) easy (λ c. search needs) easy (λ c κs. search needs) easy
     (λ c. search needs) easy easy easy (λ c κs. search needs) easy (λ c. search needs) easy easy easy
-    (λ c κs. search needs) easy (λ c. search needs) (λ c κs. search needs) easy easy easy easy (λ c. search needs) easy
-    easy (λ c κs. search needs) easy easy (λ c. search needs) easy easy easy (λ c κs. search needs) easy easy
+    (λ c κs. search needs) easy (λ c. search needs) (λ c κs. search needs) (λ c. search needs) easy easy
+    (λ c κs. search needs) easy easy (λ c. search needs) easy easy easy (λ c κs. search needs) easy easy
     (λ c. search needs) easy easy (λ c κs. search needs) easy easy (λ c. search needs) (λ c κs. search needs) easy
     (λ c. search needs) (λ c κs. search needs) easy (λ c. search needs) easy easy next-requires-9 easy
     (λ c. search needs) easy (λ c. search needs) easy (λ c κs. search needs) easy (λ c. search needs) easy easy
-    (λ c κs. search needs) easy (λ c. search needs) easy easy easy (λ c κs. search needs) easy (λ c. search needs) easy
-    easy (λ c κs. search needs) easy (λ c. search needs) easy easy easy next-requires-14 easy (λ c. search needs) easy
-    easy easy (λ c κs. search needs) easy (λ c. search needs) easy add-on-map easy (λ c κs. search needs)
-    (λ c. search needs) easy (λ c κs. search needs) returns returns-2 returns-3 returns-4 returns-5 returns-6 returns-7
-    returns-8 returns-9 returns-10 returns-11 returns-12 returns-13 returns-14 returns-15 returns-16 returns-17
-    returns-18 returns-19 returns-20 returns-21 returns-22 returns-23 returns-24 returns-25 returns-26)
+    (λ c κs. search needs) easy (λ c. search needs) easy easy easy (λ c κs. search needs) easy (λ c. search needs)
+    easy easy (λ c κs. search needs) easy (λ c. search needs) easy easy easy next-requires-14 easy
+    (λ c. search needs) easy easy easy (λ c κs. search needs) easy (λ c. search needs) easy add-on-map easy
+    (λ c κs. search needs) (λ c. search needs) easy (λ c κs. search needs) returns returns-2 returns-3 returns-4
+    returns-5 returns-6 returns-7 returns-8 returns-9 returns-10 returns-11 returns-12 returns-13 returns-14
+    returns-15 returns-16 returns-17 returns-18 returns-19 returns-20 returns-21 returns-22 returns-23 returns-24
+    returns-25 returns-26)

@@ -46,10 +46,10 @@ writersAndReader-order : order callStore (λ s. s) three writersAndReader ≡
     operation 1 WRITE 0 9 ∷ operation 2 READ 0 0 ∷ operation 0 WRITE 0 7 ∷ []
 writersAndReader-order = refl
 
--- the number is on block 0 with content 7; the reader saw 9
+-- the number is on block 0 with content 7, worn once by writer 0, who found it mapped; the reader saw 9
 abbrev threeLeft : List ℕ × List (List ℕ)
 threeLeft = (
-  0 ∷ 0 ∷ 0 ∷ 0 ∷ 0 ∷ 1 ∷ 0 ∷ 1 ∷ 0 ∷ 7 ∷ 0 ∷ 0 ∷ 0 ∷ 0 ∷ 0 ∷ [],
+  0 ∷ 0 ∷ 0 ∷ 0 ∷ 0 ∷ 1 ∷ 0 ∷ 1 ∷ 0 ∷ 7 ∷ 0 ∷ 1 ∷ 0 ∷ 0 ∷ 0 ∷ [],
   (0 ∷ []) ∷ (0 ∷ []) ∷ (9 ∷ []) ∷ [],
 )
 
@@ -78,10 +78,10 @@ levellerAndWriter-order : order callStore (λ s. s) two levellerAndWriter ≡
     unmapped ++ operation 1 WRITE 2 5 ∷ operation 0 LEVEL 0 0 ∷ []
 levellerAndWriter-order = refl
 
--- number 1 was moved to block 0 and number 2 has its new content; block 1 is free, keeps its content and is worn
+-- number 1 was moved to block 0; number 2 has its new content, and block 2 is worn; block 1 is free, keeps its content and is worn
 abbrev twoLeft : List ℕ × List (List ℕ)
 twoLeft = (
-  0 ∷ 0 ∷ 0 ∷ 0 ∷ 0 ∷ 1 ∷ 3 ∷ 0 ∷ 0 ∷ 0 ∷ 2 ∷ 0 ∷ 3 ∷ 0 ∷ 9 ∷ 9 ∷ 5 ∷ 0 ∷ 1 ∷ 1 ∷ 0 ∷ 0 ∷ 0 ∷ 0 ∷ 0 ∷ 0 ∷ [],
+  0 ∷ 0 ∷ 0 ∷ 0 ∷ 0 ∷ 1 ∷ 3 ∷ 0 ∷ 0 ∷ 0 ∷ 2 ∷ 0 ∷ 3 ∷ 0 ∷ 9 ∷ 9 ∷ 5 ∷ 0 ∷ 1 ∷ 1 ∷ 1 ∷ 0 ∷ 0 ∷ 0 ∷ 0 ∷ 0 ∷ [],
   (0 ∷ 0 ∷ 0 ∷ 0 ∷ 1 ∷ []) ∷ (0 ∷ []) ∷ [],
 )
 

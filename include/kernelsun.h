@@ -3,14 +3,14 @@
  * flash store that decides which physical block holds which logical block.
  *
  * It drives no chip: contents are words in memory, and a driver of yours acts
- * beside it (docs/USING.md, "The lines"). Wear counts how often a block was
- * freed. Levelling, one of the four operations, moves the content of the least
- * worn block in use to the most worn free one, if that one is worn more by a
- * distance that you choose, and so gives the little worn block back for use. It
- * happens where you begin it, and a new block is always the free one of the
- * lowest number: the layer does not even out wear by itself. Writing a block
- * that is mapped frees nothing, so neither wear nor levelling sees it, though a
- * chip has to erase for it.
+ * beside it (docs/USING.md, "The lines"). A block's wear counts its erases: one
+ * where it is freed (lines U7 and L13), and one where a write finds its number
+ * mapped to it, since a chip can't overwrite (W3); a first write counts none.
+ * At 4,294,967,295 it stays. Levelling, one of the four operations, moves the
+ * content of the least worn block in use to the most worn free one, if that one
+ * is worn more by a distance that you choose, and so gives the little worn block
+ * back for use. It happens where you begin it, and a new block is always the
+ * free one of the lowest number: the layer does not even out wear by itself.
  *
  * THE AREA
  *
@@ -114,9 +114,9 @@ extern "C" {
  * call answers otherwise; the second where something is added. An area does not
  * hold it: who saves areas saves the first number with them.
  */
-#define KERNELSUN_VERSION_MAJOR 1
+#define KERNELSUN_VERSION_MAJOR 2
 #define KERNELSUN_VERSION_MINOR 0
-#define KERNELSUN_VERSION "1.0"
+#define KERNELSUN_VERSION "2.0"
 
 /* A result that is dropped may have been a refusal. */
 #if defined(__GNUC__)

@@ -1,7 +1,7 @@
 /*
- * The lines of document 01 and the acts that they are made of, once for the C
- * versions of the benchmark. A version says where it keeps words, and includes
- * this file after it has defined
+ * The lines of document 01, W3 as document 02, §1, has it, and the acts that they
+ * are made of, once for the C versions of the benchmark. A version says where it
+ * keeps words, and includes this file after it has defined
  *
  *     place                     where a word stands
  *     get(place), put(place, v)

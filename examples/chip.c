@@ -108,6 +108,7 @@ static void program_content(uint32_t p, uint32_t c)
 
 /* ---- The driver: a line's part for the chip, which may be done again ---- */
 
+/* For compare_contents() alone: a driver keeps neither, and erases alike in both cases. */
 static uint32_t uncounted[PHYSICAL]; /* erases that the layer's wear does not count */
 static int is_due[PHYSICAL];         /* an erase that W3 counts, and that is done at W14 */
 
@@ -130,7 +131,7 @@ static void put_header(uint32_t p, uint32_t n)
     program_header(p, n);
 }
 
-/* The erase that W3 counted; where power went after it and it is done again, one that it didn't. */
+/* The one that W3 counted, while it is due; else one for a line that is done again, uncounted. */
 static void erase_to_rewrite(uint32_t p)
 {
     if (is_due[p]) {
@@ -267,7 +268,7 @@ static void save(void)
     memcpy(saved, area, sizeof area);
 }
 
-/* Before a thread's line: where that is W3, it counts the erase of its number's block. */
+/* Before a thread's line: where that is W3 and its number is mapped, an erase is due. */
 static void note_rewrite(uint32_t thread)
 {
     uint32_t p = kernelsun_map(area, kernelsun_register_n(area, thread));

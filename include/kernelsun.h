@@ -4,9 +4,9 @@
  *
  * It drives no chip: contents are words in memory, and a driver of yours acts
  * beside it (docs/USING.md, "The lines"). A block's wear counts its erases: one
- * where it is freed (lines U7 and L13), and one where a write finds its number
- * mapped to it, since a chip can't overwrite (W3); a first write counts none.
- * At 4,294,967,295 it stays. Levelling, one of the four operations, moves the
+ * where it is freed (lines U7 and L13), and one where its number is written
+ * again (W3), since a chip can't overwrite; a first write counts none. At
+ * 4,294,967,295 it stays. Levelling, one of the four operations, moves the
  * content of the least worn block in use to the most worn free one, if that one
  * is worn more by a distance that you choose, and so gives the little worn block
  * back for use. It happens where you begin it, and a new block is always the

@@ -587,6 +587,8 @@ static void check_largest_store(void)
     expect_equal("map of 255", kernelsun_map(a.bytes, 255), 511);
     expect_equal("value of 255", whole(&a, 0, KERNELSUN_READ, 255, 0).value, 766);
     expect_equal("wear of 0", kernelsun_wear(a.bytes, 0), 1);
+    expect_equal("steps of a rewrite", whole(&a, 15, KERNELSUN_WRITE, 255, 8).steps, 8);
+    expect_equal("wear of 511", kernelsun_wear(a.bytes, 511), 1001);
 }
 
 static void check_format_and_shape(void)

@@ -2,7 +2,8 @@
  * Each of the 51 lines by itself, on areas made by hand: what it changes when
  * its needs are met, and that it gives FAULT (a take: BLOCKED) and changes
  * nothing when one of them isn't. The table below is to be laid beside
- * document 01, "The lines". It was written from there and not computed.
+ * document 01, "The lines", with W3 as document 02, §1, has it. It was written
+ * from there and not computed.
  *
  * The base area holds no lock and no owner. A row's needs are put in place and
  * nothing more, so a line that asks for more than the document says fails too.

@@ -1,8 +1,8 @@
 /*
- * The step machine of document 01, straight on the bytes. Its parts follow the
- * document: the shape of an area, the acts that lines are made of with their
- * needs, the lines of the four operations, and the three calls with their
- * refusals in the table's order.
+ * The step machine of document 01, with W3 as document 02, §1, has it, straight
+ * on the bytes. Its parts follow document 01: the shape of an area, the acts that
+ * lines are made of with their needs, the lines of the four operations, and the
+ * three calls with their refusals in the table's order.
  *
  * An act looks at its need first and writes afterwards, and nothing is written
  * outside an act before the act went. That is how a blocked or refused call

@@ -51,11 +51,12 @@ unfoldable pub rewritten : List Case
 rewritten =
     leaves 7 0 (toItsEnd WRITE 0 7 16 0 [])  -- a first write wears nothing
     ∷ leaves 8 1 (toItsEnd WRITE 0 7 16 0 (again 0 []))  -- a second one: 8 steps, wear 1
-    ∷ leaves 8 3 (toItsEnd WRITE 0 7 16 0 (again 0 (again 0 (again 0 []))))  -- and a fourth: wear 3
-    ∷ accepted 1 2 3 2 (both (givesUp (stays [])))  -- D=2; block 0 is free with wear 1
-    ∷ accepted 1 2 3 2 (both (again 0 (givesUp (moves (toItsEnd READ 1 0 6 9 [])))))  -- with 2, since number 0 was rewritten: number 1 moves there
-    ∷ accepted 1 2 3 2 (both (again 0 (again 0 (again 1 (givesUp (moves (toItsEnd READ 1 0 6 8 [])))))))  -- 3 against 1: a rewritten number is moved
-    ∷ accepted 1 2 3 2 (both (again 0 (again 0 (again 1 (again 1 (givesUp (stays [])))))))  -- 3 against 2: rewritten once more it isn't
+    -- from here on D=2. Block 0 is free with wear 1, too little
+    ∷ accepted 1 2 3 2 (both (givesUp (stays [])))
+    -- with wear 2, since number 0 was rewritten: number 1 moves there
+    ∷ accepted 1 2 3 2 (both (again 0 (givesUp (moves (toItsEnd READ 1 0 6 9 [])))))
+    -- too little again, since number 1 was rewritten as well
+    ∷ accepted 1 2 3 2 (both (again 0 (again 1 (givesUp (stays [])))))
     ∷ []
 
 pub rewritten-hold : map happens rewritten ≡ map expected rewritten

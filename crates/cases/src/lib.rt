@@ -1,2 +1,2 @@
-// Cases and numbers of documents 01 and 02, proved by computing the definitions; no code.
+// Cases of documents 01 and 02, and document 01's numbers, proved by computing the definitions; no code.
 // specs/Cases.antt has document 01's cases and specs/Given.antt its numbers; specs/Rewriting.antt has those of document 02, §1.

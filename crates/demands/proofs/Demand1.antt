@@ -4,8 +4,8 @@
 --  * unfinished-value: format, begin and a step that finishes nothing give the value 0; for every area and argument.
 --  * finishing-values: what a finishing step gives: a write and an unmap 0, a read register c, a levelling 1 where h isn't free and else 0;
 --    for every area.
---  * wear-counted, wear-never-falls: a block's wear goes up by one exactly where a step frees it, until the largest word, and no begin or step lowers
---    it; of every area of bytes, grown or made by hand.
+--  * wear-counted, wear-never-falls: a block's wear goes up by one exactly where a step frees it, or at W3 finds n mapped to it, until the largest word, and
+--    no begin or step lowers it; of every area of bytes, grown or made by hand.
 --  * formed-kept: an area that was well formed, grown from fresh or made by hand, is so after every begin and step.
 --  * sizes-kept, grown-sizes: no begin or step changes T, N, P or D.
 --  * grown-well-formed, grown-no-shape: an area grown from fresh is well formed, so no call on it answers SHAPE.
@@ -106,7 +106,8 @@ sizes-kept a h e w =
     (λ _ _ _ t r f. record { threads = refl; numbers = refl; blocks = refl; distance = refl }) e))
     (λ f. rw f (same-sizes s))
 
--- wear, of every block: up by one where the call is a step that went at U7 or L13 with the block in p, until the largest, and else kept
+-- wear, of every block: up by one where the call is a step that went at U7 or L13 with the block in p, or at W3 with the block that n is mapped to,
+-- until the largest, and else kept
 pub wear-counted : (a : List ℕ) → Bytes a → (e : Entry) → Words e →
     WearCounts (decode a) (decode (callArea a e .after)) e (callArea a e .number)
 wear-counted a h e w = either-way (wellFormed a) formed (λ f. rw f (malformed e))

@@ -10,7 +10,8 @@
 --  * reuse-comes, reuse-grown: an area grown from fresh at W8 of a write whose block still holds what was written before it was freed; W8
 --    empties it, and it is empty until W14.
 --  * largest-wear-stays, rewriting-wears, finished-with, ties-chosen: on areas made by hand, U7 and L13 leave the largest wear as it is, and the one
---    below goes up to it; W3 wears the block that the map names, and no other; what each operation finishes with, with 7 in register c; and L3 chooses the lowest numbers on ties.
+--    below goes up to it; W3 wears the block that the map names, and no other; what each operation finishes with, with 7 in register c; and L3 chooses
+--    the lowest numbers on ties.
 -- Assumes nothing.
 use mathlib.Core.Path.{_≡_, refl}
 use mathlib.Core.Bool.{Bool, true, _&&_}

@@ -29,7 +29,7 @@ use Rattle.meaning.proofs.Acts.{Wears, no-block, block-p, block-of-n, w
 
 -- ---- wear
 
--- an act wears p exactly at the lines that free it, and the block that n is mapped to exactly at the line that is to rewrite it
+-- an act wears p exactly at the lines that free it, and the block that n is mapped to exactly at the line that looks it up for a write
 abbrev wears-right : Wears → Thread → Bool
 wears-right no-block r = not (freeing r) && not (rewriting r)
 wears-right block-p r = freeing r && not (rewriting r)

@@ -16,7 +16,7 @@ use Rattle.meaning.specs.Call.{Entry, begin, step}
 abbrev pub freeing : Thread → Bool
 freeing r = eqb (r .op) UNMAP && eqb (r .line) 7 || eqb (r .op) LEVEL && eqb (r .line) 13
 
--- W3, the line at which a thread looks up whether it is to rewrite a block: the one that register n is mapped to
+-- W3, the line at which a write looks its number up: where that is mapped, its block is to be rewritten
 abbrev pub rewriting : Thread → Bool
 rewriting r = eqb (r .op) WRITE && eqb (r .line) 3
 

@@ -82,7 +82,7 @@ asks Choose = needs (owns-headers ∷ some-free ∷ [])
 -- map lines: nothing
 asks (MapTo b) = needs []
 asks Unmap = needs []
--- nor have those that only look at the map, or at register h
+-- nor have those that look something up, in the map or at register h; W3 counts an erase besides, and needs nothing for it
 asks (GoIfMapped l) = needs []
 asks (GoIfUnmapped l) = needs []
 asks (EmptyIfUnmapped l) = needs []

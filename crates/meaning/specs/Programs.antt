@@ -1,4 +1,4 @@
--- 01, "The lines": the four programs, a line each with its label. What an act does is `perform` of Step.
+-- 01, "The lines", with W3 as 02, §1, has it: the four programs, a line each with its label. What an act does is `perform` of Step.
 use mathlib.Core.List.{List, [], _∷_}
 use Prim.Native.Nat.{ℕ, _-_}
 use lib.ListN.{getD, length}

@@ -116,18 +116,17 @@ judge-act-spec =
     tie.close
     (tie.spec (λ c. search needs) (λ c. search needs) (λ c. search needs) easy (λ c κs. search needs) easy
     (λ c. search needs) easy (λ c κs. search needs) easy (λ c. search needs) easy easy easy (λ c. search needs) easy
-    (λ c κs. search needs) easy (λ c. search needs) easy (λ c κs. search needs) easy (λ c. search needs) easy easy
-    easy (λ c. search needs) easy (λ c κs. search needs) easy (λ c. search needs) easy (λ c κs. search needs) easy
+    (λ c κs. search needs) easy (λ c. search needs) easy (λ c κs. search needs) easy (λ c. search needs) easy easy easy
+    (λ c. search needs) easy (λ c κs. search needs) easy (λ c. search needs) easy (λ c κs. search needs) easy
     (λ c. search needs) easy easy easy (λ c κs. search needs) easy (λ c. search needs) easy easy easy
-    (λ c κs. search needs) easy (λ c. search needs) (λ c κs. search needs) (λ c. search needs) easy easy
-    (λ c κs. search needs) easy easy (λ c. search needs) easy easy easy (λ c κs. search needs) easy easy
+    (λ c κs. search needs) easy (λ c. search needs) (λ c κs. search needs) (λ c. search needs) easy
+    easy (λ c κs. search needs) easy easy (λ c. search needs) easy easy easy (λ c κs. search needs) easy easy
     (λ c. search needs) easy easy (λ c κs. search needs) easy easy (λ c. search needs) (λ c κs. search needs) easy
     (λ c. search needs) (λ c κs. search needs) easy (λ c. search needs) easy easy next-requires-9 easy
     (λ c. search needs) easy (λ c. search needs) easy (λ c κs. search needs) easy (λ c. search needs) easy easy
-    (λ c κs. search needs) easy (λ c. search needs) easy easy easy (λ c κs. search needs) easy (λ c. search needs)
-    easy easy (λ c κs. search needs) easy (λ c. search needs) easy easy easy next-requires-14 easy
-    (λ c. search needs) easy easy easy (λ c κs. search needs) easy (λ c. search needs) easy add-on-map easy
-    (λ c κs. search needs) (λ c. search needs) easy (λ c κs. search needs) returns returns-2 returns-3 returns-4
-    returns-5 returns-6 returns-7 returns-8 returns-9 returns-10 returns-11 returns-12 returns-13 returns-14
-    returns-15 returns-16 returns-17 returns-18 returns-19 returns-20 returns-21 returns-22 returns-23 returns-24
-    returns-25 returns-26)
+    (λ c κs. search needs) easy (λ c. search needs) easy easy easy (λ c κs. search needs) easy (λ c. search needs) easy
+    easy (λ c κs. search needs) easy (λ c. search needs) easy easy easy next-requires-14 easy (λ c. search needs) easy
+    easy easy (λ c κs. search needs) easy (λ c. search needs) easy add-on-map easy (λ c κs. search needs)
+    (λ c. search needs) easy (λ c κs. search needs) returns returns-2 returns-3 returns-4 returns-5 returns-6 returns-7
+    returns-8 returns-9 returns-10 returns-11 returns-12 returns-13 returns-14 returns-15 returns-16 returns-17
+    returns-18 returns-19 returns-20 returns-21 returns-22 returns-23 returns-24 returns-25 returns-26)

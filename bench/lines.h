@@ -89,7 +89,7 @@ static inline uint32_t map_to(const machine *m, uint32_t entry)
     return KERNELSUN_WENT;
 }
 
-/* W3, R2 and U3: p becomes the block of a mapped number; where to go on in either case. */
+/* W3, R2 and U3: p becomes the block of a mapped number; where to go on from each. */
 static inline uint32_t look_up(machine *m, uint32_t if_mapped, uint32_t if_unmapped)
 {
     uint32_t entry = get(map_place(m, reg(m, KERNELSUN_THREAD_N)));

@@ -1,0 +1,2 @@
+-- The laws that the functions' proofs and the crates above cite, a file a subject.
+pub mod Rooms

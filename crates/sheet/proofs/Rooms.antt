@@ -93,19 +93,21 @@ module _ (a : List ℕ) (well : wellFormed a ≡ true) where
   pub headed : 24 ≤ length a
   headed = omega (arith, long)
 
-  -- and so are the words of its wear
-  pub reaching : Reaches a (blocksAt (word a tAt) (word a nAt) + 2) blockWords (word a pAt)
-  reaching k low = omega (arith, long)
-
 -- the records are the blocks of the store that the area holds
 rows-first :
     (a : List ℕ) (k : ℕ) → k ≤ word a pAt → rowsOf (word a) (blocksAt (word a tAt) (word a nAt)) k ≡ firstBlocks (decode a) k
 rows-first a zero low = refl
 rows-first a (suc k) low = rw (lt-ltb k (word a pAt) (omega arith), rows-first a k (omega arith))
 
-pub rows-all :
-    (a : List ℕ) → rowsOf (word a) (blocksAt (word a tAt) (word a nAt)) (word a pAt) ≡ storeBlocks (decode a)
-rows-all a = rows-first a (word a pAt) (omega arith)
+-- the sizes have been read, and where the records begin
+module _ (a : List ℕ) {from t n p : ℕ} (begin : from ≡ blocksAt t n)
+    (et : t ≡ word a tAt) (en : n ≡ word a nAt) (ep : p ≡ word a pAt) where
+  pub placed : {x : Tally} → wellFormed a ≡ true → Room x mostBlocks → Room x p × Reaches a (from + 2) blockWords p
+  placed well room =
+      (room-less (omega (arith, sized a well .p-high)) room, λ k low. omega (arith, long a well))
+
+  pub rows-all : rowsOf (word a) from p ≡ storeBlocks (decode a)
+  rows-all = rw (begin, et, en, ep) (rows-first a (word a pAt) (omega arith))
 
 -- the counts of areas stay when blocks are added
 pub blocks-areas : (t : Tally) (bs : List Block) → (withBlocks t bs .areas ≡ t .areas) × (withBlocks t bs .skipped ≡ t .skipped)

@@ -8,7 +8,7 @@ use Rattle.meaning.specs.Numbers.{WENT, packed}
 use Rattle.meaning.specs.Limits.{mostBlocks, mostWord}
 use Rattle.meaning.specs.Holding.{free}
 use Rattle.meaning.specs.Call.{Reply}
-use Rattle.store.specs.Area.{decode, wellFormed}
+use Rattle.store.specs.Area.{Bytes, decode, wellFormed}
 use Rattle.sheet.specs.declared.Tally.{Tally}
 use Rattle.sheet.specs.Sheet.{Block, storeBlocks, Sheet, wearOf}
 
@@ -107,3 +107,18 @@ addArea t a =
 abbrev pub AddMeans : Tally → List ℕ → ℕ → Tally → Type 0
 AddMeans entry area result exit =
     (result ≡ packed (addArea entry area .number) (addArea entry area .value)) × (exit ≡ addArea entry area .after)
+
+-- ---- areas in turn
+
+abbrev pub addAll : Tally → List (List ℕ) → Tally
+addAll t [] = t
+addAll t (a ∷ more) = addAll (addArea t a .after) more
+
+abbrev pub AllBytes : List (List ℕ) → Type 0
+AllBytes [] = Unit {0}
+AllBytes (a ∷ more) = Bytes a × AllBytes more
+
+-- a tally that calls left of one of zeros, whatever they answered
+pub data FromZeros : Tally → Type 0 where
+  start : FromZeros zeros
+  call : (t : Tally) (a : List ℕ) → FromZeros t → Bytes a → FromZeros (addArea t a .after)

@@ -1,6 +1,6 @@
 -- 02, §2: the wear sheet of a list of areas, as one definition over all blocks of all well-formed ones. How a tally comes to it, an area at a
 -- time, is in Adding.
-use mathlib.Core.Bool.{Bool, cond}
+use mathlib.Core.Bool.{cond}
 use mathlib.Core.List.{List, [], _∷_, _++_}
 use Prim.Native.Nat.{ℕ, zero, suc, _+_, _/_, _%_, min, max}
 use lib.ListN.{length}

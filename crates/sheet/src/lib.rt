@@ -10,7 +10,8 @@ ghost use Rattle.store.specs.Layout.{blockWords};
 ghost use Rattle.store.specs.Area.{word, wellFormed, decode};
 ghost use Rattle.store.specs.Live.{Reaches};
 ghost use Rattle.sheet.specs.Sheet.{storeBlocks};
-ghost use Rattle.sheet.specs.Adding.{mostAreas, zeros as zerosOf, plausible as plausibleOf, withBlock, withBlocks, counted as countedOf, lesser as lesserOf, greater as greaterOf, AddMeans};
+ghost use Rattle.sheet.specs.Adding.{mostAreas, zeros as zerosOf, plausible as plausibleOf};
+ghost use Rattle.sheet.specs.Adding.{lesser as lesserOf, greater as greaterOf, withBlock, withBlocks, counted as countedOf, AddMeans};
 ghost use Rattle.sheet.specs.Room.{Room, rowsOf};
 use store::Store;
 
@@ -38,7 +39,7 @@ pub struct Addition {
 const MOST_AREAS: u32 = 200;
 
 // The most blocks of an area, and the largest wear.
-const MOST_BLOCKS: u32 = 512;
+const MOST_BLOCKS: u32 = Store::MAX_P as u32;
 
 const MOST_WEAR: u64 = 4294967295;
 

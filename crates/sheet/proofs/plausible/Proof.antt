@@ -12,11 +12,16 @@ returns-2 c = rw (le-leb _ _ (c .before .before .if1 .left), lt-leb _ _ (c .if2 
 
 returns-3 : tie.Need-returns-3
 returns-3 c =
-    rw (le-leb _ _ (c .before .before .before .before .before .if1 .left), le-leb _ _ (c .before .before .before .if2 .left), lt-leb _ _ (c .if3 .taken))
+    let skipped = c .before .before .before in
+    let areas = skipped .before .before in
+    rw (le-leb _ _ (areas .if1 .left), le-leb _ _ (skipped .if2 .left), lt-leb _ _ (c .if3 .taken))
 
 returns-4 : tie.Need-returns-4
 returns-4 c =
-    rw (le-leb _ _ (c .before .before .before .before .before .before .before .before .if1 .left), le-leb _ _ (c .before .before .before .before .before .before .if2 .left), le-leb _ _ (c .before .before .before .if3 .left))
+    let blocks = c .before .before .before in
+    let skipped = blocks .before .before .before in
+    let areas = skipped .before .before in
+    rw (le-leb _ _ (areas .if1 .left), le-leb _ _ (skipped .if2 .left), le-leb _ _ (blocks .if3 .left))
 
 pub plausible-spec : {M : Type 1} → statement M
 plausible-spec =

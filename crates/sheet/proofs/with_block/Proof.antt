@@ -8,7 +8,9 @@ use Rattle.sheet.proofs.with_block.Tie as tie
 
 add-t6 : tie.Need-add-t6
 add-t6 c =
-    record { fits = omega (arith, c .before .is-free .ensures, once (free (c .before .before .before .args .header)), c .before .before .before .pre .few, c .before .before .before .pre .free) }
+    let start = c .before .before .before in
+    let few = once (free (start .args .header)) in
+    record { fits = omega (arith, c .before .is-free .ensures, few, start .pre .few, start .pre .free) }
 
 returns : tie.Need-returns
 returns c = rw (c .before .before .before .before .is-free .ensures, c .before .before .lesser .ensures, c .before .greater .ensures)

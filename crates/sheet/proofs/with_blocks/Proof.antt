@@ -4,6 +4,7 @@ use mathlib.Core.Path.{_≡_, _∙_, refl, sym}
 use Prim.Native.Nat.{_+_, _-_, _≤_}
 use native.Mathlib.Omega.{arith}
 use Rattle.store.specs.Area.{word}
+use Rattle.sheet.specs.Sheet.{Block}
 use Rattle.sheet.specs.Adding.{withBlocks}
 use Rattle.sheet.specs.Room.{Room, rowsOf}
 use Rattle.sheet.proofs.Rooms.{room-less, room-next, rows-next}
@@ -17,37 +18,18 @@ Inv-loop area from count all₀ k₀ all k =
 abbrev μ-loop : tie.MeasureT-loop
 μ-loop area from count all₀ k₀ all k = count - k
 
-loop-holds : tie.Need-loop-holds Inv-loop μ-loop
-loop-holds c = (omega arith, refl, room-less (omega arith) (c .before .pre .0))
-
-mul-cell : tie.Need-mul-cell Inv-loop μ-loop
-mul-cell c = omega (arith, c .before .before .before .pre .1 (c .before .loop .k) (omega arith))
-
-add-cell : tie.Need-add-cell Inv-loop μ-loop
-add-cell c = omega (arith, c .before .before .before .pre .1 (c .before .loop .k) (omega arith))
-
-word-at-requires : tie.Need-word-at-requires Inv-loop μ-loop
-word-at-requires c κs = omega (arith, c .before .before .before .pre .1 (c .before .loop .k) (omega arith))
-
-add-word-at : tie.Need-add-word-at Inv-loop μ-loop
-add-word-at c = omega (arith, c .before .before .before .before .pre .1 (c .before .before .loop .k) (omega arith))
-
-word-at-requires-2 : tie.Need-word-at-requires-2 Inv-loop μ-loop
-word-at-requires-2 c κs = omega (arith, c .before .before .before .before .pre .1 (c .before .before .loop .k) (omega arith))
-
 with-block-requires : tie.Need-with-block-requires Inv-loop μ-loop
 with-block-requires c κs = room-less (omega arith) (c .before .before .before .loop .inv .2)
 
-add-k : tie.Need-add-k Inv-loop μ-loop
-add-k c = omega arith
-
-loop-less : tie.Need-loop-less Inv-loop μ-loop
-loop-less c = omega arith
-
 loop-again : tie.Need-loop-again Inv-loop μ-loop
 loop-again c =
-    let more = rows-next _ (word (c .before .before .before .before .before .before .args .area .now)) (c .before .before .before .before .before .before .args .from) (c .before .before .before .before .loop .k) (c .before .before .before .before .loop .inv .1) (c .before .before .word-at .ensures) (c .before .word-at2 .ensures) in
-    let room = room-next (record { header = c .before .before .word-at .result; wear = c .before .word-at2 .result }) (c .before .before .before .before .before .before .args .count - (c .before .before .before .before .loop .k + 1)) (omega arith) (room-less (omega arith) (c .before .before .before .before .loop .inv .2)) in
+    let wear = c .before in
+    let header = wear .before in
+    let here = header .before .before .loop in
+    let x = header .before .before .before .before .args in
+    let block : Block = record { header = header .word-at .result; wear = wear .word-at2 .result } in
+    let more = rows-next _ (word (x .area .now)) (x .from) (here .k) (here .inv .1) (header .word-at .ensures) (wear .word-at2 .ensures) in
+    let room = room-next block (x .count - (here .k + 1)) (omega arith) (room-less (omega arith) (here .inv .2)) in
     (omega arith, c .with-block .ensures ∙ more, rw (c .with-block .ensures) room)
 
 returns : tie.Need-returns Inv-loop μ-loop
@@ -58,5 +40,10 @@ returns c =
 pub with-blocks-spec : {M : Type 1} → statement M
 with-blocks-spec =
     tie.close
-    (tie.spec Inv-loop μ-loop loop-holds mul-cell add-cell word-at-requires add-word-at word-at-requires-2
-    with-block-requires add-k loop-less loop-again returns)
+    (tie.spec Inv-loop μ-loop (λ c. (omega arith, refl, room-less (omega arith) (c .before .pre .0)))
+    (λ c. omega (arith, c .before .before .before .pre .1 (c .before .loop .k) (omega arith)))
+    (λ c. omega (arith, c .before .before .before .pre .1 (c .before .loop .k) (omega arith)))
+    (λ c κs. omega (arith, c .before .before .before .pre .1 (c .before .loop .k) (omega arith)))
+    (λ c. omega (arith, c .before .before .before .before .pre .1 (c .before .before .loop .k) (omega arith)))
+    (λ c κs. omega (arith, c .before .before .before .before .pre .1 (c .before .before .loop .k) (omega arith)))
+    with-block-requires (λ c. omega arith) (λ c. omega arith) loop-again returns)

@@ -1,37 +1,53 @@
--- `sheet::with_store` meets its contract. Assumes nothing.
-use mathlib.Core.Path.{_∙_}
+-- `sheet::with_store` meets its contract: the sizes are read, and the records counted that follow from them. Assumes nothing.
+use mathlib.Core.Path.{ap, _∙_}
 use native.Mathlib.Omega.{arith}
 use borrow.Author.Needs.{needs}
-use Rattle.sheet.proofs.Rooms.{room-less, sized, headed, reaching, rows-all}
+use Rattle.sheet.specs.Adding.{withBlocks}
+use Rattle.sheet.proofs.Rooms.{sized, headed, placed, rows-all}
 use Rattle.sheet.proofs.with_store.Statement.{statement}
 use Rattle.sheet.proofs.with_store.Tie as tie
 
-word-at-requires : tie.Need-word-at-requires
-word-at-requires c κs = omega (arith, headed _ (c .before .pre .1))
+-- ---- places of the code
 
-word-at-requires-2 : tie.Need-word-at-requires-2
-word-at-requires-2 c κs = omega (arith, headed _ (c .before .before .pre .1))
+-- N has been read, from where P has been
+abbrev n-read : tie.After-word-at3 → tie.After-word-at2
+n-read c = c .before
 
-word-at-requires-3 : tie.Need-word-at-requires-3
-word-at-requires-3 c κs = omega (arith, headed _ (c .before .before .before .pre .1))
+-- T has been read, from where P has been
+abbrev t-read : tie.After-word-at3 → tie.After-word-at
+t-read c = c .before .before
+
+abbrev start : tie.After-word-at3 → tie.Start
+start c = t-read c .before .before
+
+-- ---- the needs
 
 blocks-at-requires : tie.Need-blocks-at-requires
 blocks-at-requires c κs =
-    let z = sized _ (c .before .before .before .before .pre .1) in
-    (rw (c .before .before .word-at .ensures) (z .t-high), rw (c .before .word-at2 .ensures) (z .n-high))
+    let z = sized _ (start c .pre .1) in
+    (rw (t-read c .word-at .ensures) (z .t-high), rw (n-read c .word-at2 .ensures) (z .n-high))
 
 with-blocks-requires : tie.Need-with-blocks-requires
 with-blocks-requires c κs =
-    let well = c .before .before .before .before .before .pre .1 in
-    rw (c .blocks-at .ensures, c .before .before .before .word-at .ensures, c .before .before .word-at2 .ensures, c .before .word-at3 .ensures)
-    (room-less (sized _ well .p-high) (c .before .before .before .before .before .pre .0), reaching _ well)
+    let p = c .before in
+    let x = start p in
+    placed (x .args .area .now) (c .blocks-at .ensures) (t-read p .word-at .ensures) (n-read p .word-at2 .ensures)
+    (p .word-at3 .ensures)
+    (x .pre .1) (x .pre .0)
 
 returns : tie.Need-returns
 returns c =
-    c .with-blocks .ensures ∙ rw (c .before .blocks-at .ensures, c .before .before .before .before .word-at .ensures, c .before .before .before .word-at2 .ensures, c .before .before .word-at3 .ensures, rows-all (c .before .before .before .before .before .before .args .area .now))
+    let p = c .before .before in
+    let x = start p .args in
+    c .with-blocks .ensures
+    ∙ ap (withBlocks (x .t))
+    (rows-all (x .area .now) (c .before .blocks-at .ensures) (t-read p .word-at .ensures) (n-read p .word-at2 .ensures)
+    (p .word-at3 .ensures))
 
 pub with-store-spec : {M : Type 1} → statement M
 with-store-spec =
     tie.close
-    (tie.spec word-at-requires (λ c. search needs) word-at-requires-2 (λ c. search needs) word-at-requires-3
-    (λ c. search needs) blocks-at-requires with-blocks-requires returns)
+    (tie.spec (λ c κs. omega (arith, headed _ (c .before .pre .1))) (λ c. search needs)
+    (λ c κs. omega (arith, headed _ (c .before .before .pre .1))) (λ c. search needs)
+    (λ c κs. omega (arith, headed _ (c .before .before .before .pre .1))) (λ c. search needs)
+    blocks-at-requires with-blocks-requires returns)

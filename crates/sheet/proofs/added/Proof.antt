@@ -1,13 +1,14 @@
 -- `sheet::added` meets its contract: a refusal after the other, and then the area, malformed or not. Assumes nothing.
 use mathlib.Core.Path.{_≡_, refl, sym, ap, _∙_}
 use mathlib.Core.Bool.{Bool, true, false, not}
+use Prim.Native.Nat.{_<_, _≤_}
 use native.Mathlib.Omega.{arith}
 use borrow.Author.Needs.{needs}
 use borrow.Author.Tests.{not-true, not-false, le-ltb, lt-ltb}
 use denote.Ref.{now}
 use Rattle.store.specs.Area.{decode}
 use Rattle.sheet.specs.Sheet.{storeBlocks}
-use Rattle.sheet.specs.Adding.{plausible, counted}
+use Rattle.sheet.specs.Adding.{mostAreas, plausible, counted}
 use Rattle.sheet.proofs.Rooms.{Plausible, plausible-facts, roomy, blocks-areas}
 use Rattle.sheet.proofs.added.Statement.{statement}
 use Rattle.sheet.proofs.added.Tie as tie
@@ -36,42 +37,48 @@ is-plausible c = passed (c .before .plausible .ensures) (c .if1 .left)
 facts : (c : tie.After-well-formed) → Plausible (start (trusted (roomed c)) .args .tally)
 facts c = plausible-facts _ (is-plausible (trusted (roomed c)))
 
+low : (c : tie.After-well-formed) → start (trusted (roomed c)) .args .tally .areas < mostAreas
+low c = omega (arith, roomed c .if2 .left)
+
 -- ---- the refusals and the answers
 
 returns : tie.Need-returns
 returns c = rw (sym (c .before .plausible .ensures) ∙ not-true _ (c .if1 .taken)) (refl, refl)
 
 returns-2 : tie.Need-returns-2
-returns-2 c = rw (is-plausible (c .before .before), le-ltb _ _ (c .if2 .taken)) (refl, refl)
+returns-2 c =
+    let x = start (c .before .before) .args in
+    let high : mostAreas ≤ x .tally .areas = omega (arith, c .if2 .taken) in
+    rw (is-plausible (c .before .before), le-ltb _ _ high) (refl, refl)
 
 counted-requires : tie.Need-counted-requires
-counted-requires c κs = (roomed (c .before) .if2 .left, facts (c .before) .skipped, omega arith)
+counted-requires c κs = (low (c .before), facts (c .before) .skipped, omega arith)
 
 returns-3 : tie.Need-returns-3
 returns-3 c =
     let area = c .before .before in
     let broken = sym (area .well-formed .ensures) ∙ not-true _ (c .before .if3 .taken) in
-    rw (is-plausible (trusted (roomed area)), lt-ltb _ _ (roomed area .if2 .left), broken)
+    rw (is-plausible (trusted (roomed area)), lt-ltb _ _ (low area), broken)
     (refl, c .counted .ensures)
 
 with-store-requires : tie.Need-with-store-requires
 with-store-requires c κs =
     let area = c .before in
-    (roomy (facts area) (roomed area .if2 .left), passed (area .well-formed .ensures) (c .if3 .left))
+    (roomy (facts area) (low area), passed (area .well-formed .ensures) (c .if3 .left))
 
 counted-requires-2 : tie.Need-counted-requires-2
 counted-requires-2 c κs =
     let area = c .before .before in
     let x = start (trusted (roomed area)) .args in
     let same = blocks-areas (x .tally) (storeBlocks (decode (now (x .area)))) in
-    rw (c .with-store .ensures, same .0, same .1) (roomed area .if2 .left, facts area .skipped, omega arith)
+    rw (c .with-store .ensures, same .0, same .1) (low area, facts area .skipped, omega arith)
 
 returns-4 : tie.Need-returns-4
 returns-4 c =
     let seen = c .before in
     let area = seen .before .before in
     let well = passed (area .well-formed .ensures) (seen .before .if3 .left) in
-    rw (is-plausible (trusted (roomed area)), lt-ltb _ _ (roomed area .if2 .left), well)
+    rw (is-plausible (trusted (roomed area)), lt-ltb _ _ (low area), well)
     (refl, c .counted2 .ensures ∙ ap (counted 0) (seen .with-store .ensures))
 
 pub added-spec : {M : Type 1} → statement M

@@ -10,7 +10,7 @@
 #include <stddef.h>
 #include <stdint.h>
 
-/* The door's three functions. See include/kernelsun.h. */
+/* The door's functions of document 01. See include/kernelsun.h. */
 uint64_t plain_format(uint8_t *area, size_t len, uint32_t t, uint32_t n, uint32_t p, uint32_t d);
 uint64_t plain_begin(uint8_t *area, size_t len, uint32_t thread, uint32_t op, uint32_t n,
                      uint32_t c);

@@ -17,10 +17,11 @@
  * All that the layer knows stands in one run of bytes that you own, the area.
  * It may lie anywhere in memory that can be read and written, at any alignment.
  * Its length is exact: KERNELSUN_LENGTH(t, n, p) bytes for t threads, n logical
- * and p physical blocks. A call with another length is refused (KERNELSUN_SHAPE)
- * and touches no byte beyond the length that it was given. The three functions
- * below neither allocate nor keep anything between calls, the pointer included:
- * an area may be moved, copied, saved and brought back between any two calls.
+ * and p physical blocks. A call with another length is refused (KERNELSUN_SHAPE;
+ * add_area() counts it as skipped) and touches no byte beyond the length that it
+ * was given. The four functions below neither allocate nor keep anything between
+ * calls, the pointers included: an area may be moved, copied, saved and brought
+ * back between any two calls.
  *
  * A content is a word of 32 bits. Reading an unmapped block gives 0, "empty"; a
  * 0 that was written counts like any other content and reads the same.
@@ -37,7 +38,8 @@
  * on only where you step it. Never let two calls run on the same area at one
  * time, in an interrupt handler either: if several contexts share an area, put
  * each call (not each operation) under one lock or in one critical section.
- * Calls on different areas have nothing to do with each other.
+ * The same goes for a tally. Calls on different areas, with different tallies
+ * where they have one, have nothing to do with each other.
  *
  * DRIVING AN OPERATION TO ITS END
  *
@@ -76,13 +78,38 @@
  * unmap is open. When all threads are idle, the bytes are those of the same
  * operations one after the other, in that order. Both are proved.
  *
+ * THE WEAR SHEET
+ *
+ * add_area() adds an area to a record that you lend, the tally: blocks seen, free
+ * blocks, least and most wear, and the exact sum of wear, over up to 200 areas
+ * one after the other, in any order. A tally starts as all zeros. An area that is
+ * not well formed, by the test that gives KERNELSUN_SHAPE elsewhere, is counted as
+ * an area and as skipped, and no more. Areas are only read; they may have open
+ * work.
+ *
+ *     struct kernelsun_tally tally = {0};
+ *     for (i = 0; i < count; i++) {
+ *         uint64_t r = add_area(&tally, areas[i], lengths[i]);
+ *         if (kernelsun_number(r) != KERNELSUN_WENT)
+ *             break;
+ *     }
+ *     if (tally.blocks != 0) {
+ *         mean = tally.sum / tally.blocks;
+ *         remainder = tally.sum % tally.blocks;
+ *     }
+ *
+ * With no blocks seen there is no mean, and least and most say nothing. A tally
+ * may be copied, saved and brought back like an area. Counts that no areas can
+ * have left are refused (KERNELSUN_TALLY); other damage is not noticed.
+ *
  * WHAT COMES BACK
  *
  * A number, which says what happened, and a value, which is an operation's
  * answer beside KERNELSUN_FINISHED and else 0. Both come packed into one word:
  * number times 4,294,967,296 plus value. Only KERNELSUN_WENT and
- * KERNELSUN_FINISHED change the area. After any other number each byte is as
- * it was. A compiler that can warns where a result is dropped.
+ * KERNELSUN_FINISHED change the area, or the tally in the case of add_area().
+ * After any other number each byte is as it was. A compiler that can warns where
+ * a result is dropped.
  *
  * LINKING
  *
@@ -91,12 +118,13 @@
  * after ./install, or with the paths of the library and of this header by hand
  * (docs/USING.md). The library is for x86-64 with the calling convention of
  * Linux (SSE2 registers and the red zone are used); it may be part of a
- * position-independent program. It takes the names format, begin and step and
- * no other, asks for memcpy and memset and for nothing else, has no data of its
- * own, and each call ends by itself. step() takes nearly 12 KB of stack whatever
- * the area's size, format() and begin() less than 1 KB; what your memcpy and
- * memset take comes on top. (With a shared C library, link with -z now: else the
- * first call looks them up on that stack, which takes some KB more.)
+ * position-independent program. It takes the names format, begin, step and
+ * add_area and no other, asks for memcpy and memset and for nothing else, has no
+ * data of its own, and each call ends by itself. step() takes nearly 12 KB of
+ * stack whatever the area's size, format(), begin() and add_area() less than 1 KB;
+ * what your memcpy and memset take comes on top. (With a shared C library, link
+ * with -z now: else the first call looks them up on that stack, which takes some
+ * KB more.)
  */
 #ifndef KERNELSUN_H
 #define KERNELSUN_H
@@ -115,8 +143,8 @@ extern "C" {
  * hold it: who saves areas saves the first number with them.
  */
 #define KERNELSUN_VERSION_MAJOR 2
-#define KERNELSUN_VERSION_MINOR 0
-#define KERNELSUN_VERSION "2.0"
+#define KERNELSUN_VERSION_MINOR 1
+#define KERNELSUN_VERSION "2.1"
 
 /* A result that is dropped may have been a refusal. */
 #if defined(__GNUC__)
@@ -148,6 +176,9 @@ extern "C" {
 #define KERNELSUN_LENGTH_MOST \
     KERNELSUN_LENGTH(KERNELSUN_THREADS_MOST, KERNELSUN_LOGICAL_MOST, KERNELSUN_PHYSICAL_MOST)
 
+/* How many areas a tally takes, skipped ones counted. */
+#define KERNELSUN_AREAS_MOST 200u
+
 /* Operations, for begin(). */
 #define KERNELSUN_WRITE 1u /* block n gets content c; answers 0 */
 #define KERNELSUN_READ 2u  /* answers the content of block n, 0 if unmapped; c is not looked at */
@@ -157,7 +188,8 @@ extern "C" {
 
 /*
  * Numbers given back. docs/USING.md, "Numbers", says when; each function below,
- * in which order. The area is unchanged after each but the first two.
+ * in which order. The area is unchanged after each but the first two, and so is
+ * the tally.
  */
 #define KERNELSUN_WENT 0u
 #define KERNELSUN_FINISHED 1u
@@ -170,6 +202,8 @@ extern "C" {
 #define KERNELSUN_OPERATION 15u
 #define KERNELSUN_FAULT 16u
 #define KERNELSUN_LIMITS 17u
+#define KERNELSUN_TALLY 29u
+#define KERNELSUN_FULL 30u
 
 /* The number in a result: one of those above. */
 static inline uint32_t kernelsun_number(uint64_t result)
@@ -212,11 +246,52 @@ uint64_t begin(uint8_t *area, size_t len, uint32_t thread, uint32_t op, uint32_t
  * Gives WENT, or FINISHED with the answer after the last line; or, the first
  * that applies, SHAPE, THREAD, IDLE, and then, of the line, BLOCKED or FAULT.
  *
- * For all three: area points to len bytes that may be read and written, and is
- * not NULL, not even where len is 0.
+ * For format, begin and step: area points to len bytes that may be read and
+ * written, and is not NULL, not even where len is 0.
  */
 KERNELSUN_RESULT
 uint64_t step(uint8_t *area, size_t len, uint32_t thread);
+
+/* A tally, for add_area(). It starts as all zeros. */
+struct kernelsun_tally {
+    uint32_t areas;   /* areas added, skipped ones too: at most KERNELSUN_AREAS_MOST */
+    uint32_t skipped; /* those of them that were not well formed */
+    uint32_t blocks;  /* physical blocks of the others */
+    uint32_t free;    /* those of the blocks that are free: their header names no number */
+    uint32_t least;   /* the least wear of a block; where blocks is 0, nothing */
+    uint32_t most;    /* the most wear of a block; where blocks is 0, nothing */
+    uint64_t sum;     /* the wear of all blocks together */
+};
+
+/* The library counts on these places. A compiler that puts a field elsewhere stops here. */
+typedef char kernelsun_tally_is_as_in_the_library[
+    (sizeof(struct kernelsun_tally) == 32 &&
+     offsetof(struct kernelsun_tally, areas) == 0 &&
+     offsetof(struct kernelsun_tally, skipped) == 4 &&
+     offsetof(struct kernelsun_tally, blocks) == 8 &&
+     offsetof(struct kernelsun_tally, free) == 12 &&
+     offsetof(struct kernelsun_tally, least) == 16 &&
+     offsetof(struct kernelsun_tally, most) == 20 &&
+     offsetof(struct kernelsun_tally, sum) == 24) ? 1 : -1];
+
+/*
+ * Adds the area to the tally: 1 to areas, and for each of its physical blocks 1 to
+ * blocks, 1 to free where it is free, and its wear to sum; least and most become
+ * the least and the most wear of all blocks that were added. While blocks is 0,
+ * what stands in least and most is not looked at. An area that is not well formed
+ * adds 1 to areas and 1 to skipped, and changes nothing else.
+ *
+ * Gives WENT; or, the first that applies, TALLY (the tally has over 200 areas,
+ * more skipped ones than areas, more blocks than 512 for each area that was not
+ * skipped, more free blocks than blocks, or a sum over 4,294,967,295 times its
+ * blocks), FULL (it has 200 areas).
+ *
+ * tally points to a tally that may be read and written, area to len bytes that
+ * may be read, neither is NULL, area not even where len is 0, and the two don't
+ * overlap.
+ */
+KERNELSUN_RESULT
+uint64_t add_area(struct kernelsun_tally *tally, const uint8_t *area, size_t len);
 
 #ifdef __cplusplus
 }

@@ -349,6 +349,8 @@ static inline const char *kernelsun_name(uint32_t number)
     case KERNELSUN_OPERATION: return "OPERATION";
     case KERNELSUN_FAULT: return "FAULT";
     case KERNELSUN_LIMITS: return "LIMITS";
+    case KERNELSUN_TALLY: return "TALLY";
+    case KERNELSUN_FULL: return "FULL";
     default: return "?";
     }
 }

@@ -1,6 +1,6 @@
 /*
- * See kit.h. The guarded room is a run of pages between two pages without any
- * access: a door that reads or writes beyond the area is stopped by the
+ * See kit.h. A guarded room is a run of pages between two pages without any
+ * access: a door that reads or writes beyond what lies there is stopped by the
  * processor on one side and found by the guard bytes on the other.
  */
 #define _DEFAULT_SOURCE
@@ -31,25 +31,45 @@ call call_step(uint32_t thread)
     return c;
 }
 
-/* ---- The guarded room ---- */
+/* ---- The guarded rooms ---- */
 
-static uint8_t *make_room(void)
+static void allow(uint8_t *pages, size_t bytes, int access)
 {
-    uint8_t *pages = mmap(NULL, ROOM + 2 * PAGE, PROT_NONE, MAP_PRIVATE | MAP_ANONYMOUS, -1, 0);
-    if (pages == MAP_FAILED || mprotect(pages + PAGE, ROOM, PROT_READ | PROT_WRITE) != 0) {
-        perror("no room for the area");
+    if (mprotect(pages, bytes, access) != 0) {
+        perror("no access to a guarded room");
         exit(2);
     }
+}
+
+static uint8_t *make_room(size_t bytes)
+{
+    uint8_t *pages = mmap(NULL, bytes + 2 * PAGE, PROT_NONE, MAP_PRIVATE | MAP_ANONYMOUS, -1, 0);
+    if (pages == MAP_FAILED) {
+        perror("no guarded room");
+        exit(2);
+    }
+    allow(pages + PAGE, bytes, PROT_READ | PROT_WRITE);
     return pages + PAGE;
 }
 
+/* Of the area. */
 static uint8_t *the_room(void)
 {
     static uint8_t *room;
     if (room == NULL) {
-        room = make_room();
+        room = make_room(ROOM);
     }
     return room;
+}
+
+/* Of the tally. */
+static uint8_t *the_page(void)
+{
+    static uint8_t *page;
+    if (page == NULL) {
+        page = make_room(PAGE);
+    }
+    return page;
 }
 
 static uint8_t *place_in(uint8_t *room, size_t len, unsigned place)
@@ -70,12 +90,17 @@ static size_t guards(const uint8_t *from, const uint8_t *to)
     return there < GUARD_BYTES ? there : GUARD_BYTES;
 }
 
-static void check_guards(const uint8_t *from, size_t count, const call *c, const char *side)
+/* The call is NULL where it was add_area. */
+static void check_guards(const uint8_t *from, size_t count, const call *c, const char *where)
 {
     for (size_t i = 0; i < count; i++) {
         if (from[i] != GUARD) {
-            printf("a byte %s the area was changed by ", side);
-            print_call(c);
+            printf("a byte %s was changed by ", where);
+            if (c != NULL) {
+                print_call(c);
+            } else {
+                printf("add_area");
+            }
             printf("\n");
             exit(1);
         }
@@ -102,8 +127,8 @@ uint64_t through_door(const call *c, area *a)
     memcpy(at, a->bytes, a->len);
     uint64_t r = make_call(c, at, a->len);
     memcpy(a->bytes, at, a->len);
-    check_guards(at - before, before, c, "before");
-    check_guards(at + a->len, after, c, "after");
+    check_guards(at - before, before, c, "before the area");
+    check_guards(at + a->len, after, c, "after the area");
     return r;
 }
 
@@ -112,6 +137,32 @@ const uint8_t *placed(const area *a, unsigned place)
     uint8_t *at = place_in(the_room(), a->len, place);
     memcpy(at, a->bytes, a->len);
     return at;
+}
+
+/* The places of the tally have the alignment that its type asks for, and one of them no more. */
+static uint64_t add_guarded(tally *t, const uint8_t *area_at, size_t len, unsigned turn)
+{
+    static const size_t places[] = {0, GUARD_BYTES + sizeof t->sum, PAGE - sizeof *t};
+    uint8_t *page = the_page(), *at = page + places[turn % (sizeof places / sizeof places[0])];
+    size_t before = guards(page, at), after = guards(at + sizeof *t, page + PAGE);
+    memset(at - before, GUARD, before);
+    memset(at + sizeof *t, GUARD, after);
+    memcpy(at, t, sizeof *t);
+    uint64_t r = add_area((tally *)(void *)at, area_at, len);
+    memcpy(t, at, sizeof *t);
+    check_guards(at - before, before, NULL, "before the tally");
+    check_guards(at + sizeof *t, after, NULL, "after the tally");
+    return r;
+}
+
+uint64_t add_through_door(tally *t, const area *a)
+{
+    static unsigned turn;
+    const uint8_t *at = placed(a, turn % PLACES);
+    allow(the_room(), ROOM, PROT_READ);
+    uint64_t r = add_guarded(t, at, a->len, turn++);
+    allow(the_room(), ROOM, PROT_READ | PROT_WRITE);
+    return r;
 }
 
 /* ---- Printing ---- */
@@ -136,6 +187,13 @@ void print_result(uint64_t r)
 {
     printf("%u (%s) with %u", (unsigned)kernelsun_number(r), kernelsun_name(kernelsun_number(r)),
            (unsigned)kernelsun_value(r));
+}
+
+void print_tally(const tally *t)
+{
+    printf("areas %u, skipped %u, blocks %u, free %u, least %u, most %u, sum %llu",
+           (unsigned)t->areas, (unsigned)t->skipped, (unsigned)t->blocks, (unsigned)t->free,
+           (unsigned)t->least, (unsigned)t->most, (unsigned long long)t->sum);
 }
 
 static void print_record_word(const char *what, const char *const names[], size_t words,

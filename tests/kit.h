@@ -1,7 +1,7 @@
 /*
  * What the tests of the door share: a call as a thing that can be kept and
- * printed, the way through the door with guards around the area, and areas in
- * words, so that a failure can be read.
+ * printed, the way through the door with guards around the area and the tally,
+ * and areas and tallies in words, so that a failure can be read.
  */
 #ifndef KERNELSUN_TESTS_KIT_H
 #define KERNELSUN_TESTS_KIT_H
@@ -23,6 +23,9 @@ typedef struct {
     size_t len;
 } area;
 
+typedef struct kernelsun_tally tally;
+
+/* add_area is no such call: what it changes is a tally, and no area. */
 enum { CALL_FORMAT, CALL_BEGIN, CALL_STEP, CALLS };
 
 typedef struct {
@@ -47,9 +50,18 @@ uint64_t through_door(const call *c, area *a);
 /* The area's bytes at that place, to be read until the next call through the door or to here. */
 const uint8_t *placed(const area *a, unsigned place);
 
+/*
+ * Adds the area to the tally through the door. The area is put at a place that
+ * changes from call to call, in pages that can only be read meanwhile, and the
+ * tally in a page of its own, at its start, its end or between. Bytes around the
+ * tally are checked afterwards; a changed one ends the test program.
+ */
+uint64_t add_through_door(tally *t, const area *a);
+
 /* "step(thread 1)" and so on, and "FINISHED with 7", without a newline. */
 void print_call(const call *c);
 void print_result(uint64_t r);
+void print_tally(const tally *t);
 
 /* The word of that index by its name, for an area with those sizes. */
 void print_word_name(const kernelsun_sizes *s, size_t index);

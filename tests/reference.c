@@ -2,7 +2,8 @@
  * The step machine of document 01, with W3 as document 02, §1, has it, straight
  * on the bytes. Its parts follow document 01: the shape of an area, the acts that
  * lines are made of with their needs, the lines of the four operations, and the
- * three calls with their refusals in the table's order.
+ * three calls with their refusals in the table's order. The tally of document 02,
+ * §2, comes last.
  *
  * An act looks at its need first and writes afterwards, and nothing is written
  * outside an act before the act went. That is how a blocked or refused call
@@ -572,5 +573,47 @@ uint64_t ref_step(uint8_t *area, size_t len, uint32_t thread)
         return finish(&m, op);
     }
     set_reg(&m, KERNELSUN_THREAD_LINE, m.next);
+    return result(KERNELSUN_WENT, 0);
+}
+
+/* ---- The wear sheet: document 02, §2 ---- */
+
+/* Whatever a lent record holds, no product here wraps: all are made in 64 bits. */
+static int tally_refused(const struct kernelsun_tally *t)
+{
+    uint64_t areas = t->areas, skipped = t->skipped, blocks = t->blocks;
+    return areas > KERNELSUN_AREAS_MOST || skipped > areas ||
+           blocks > (areas - skipped) * KERNELSUN_PHYSICAL_MOST || t->free > blocks ||
+           t->sum > blocks * KERNELSUN_WEAR_MOST;
+}
+
+static void add_block(struct kernelsun_tally *t, uint32_t header, uint32_t wear)
+{
+    int first = t->blocks == 0;
+    t->blocks++;
+    t->free += header == 0;
+    t->least = first || wear < t->least ? wear : t->least;
+    t->most = first || wear > t->most ? wear : t->most;
+    t->sum += wear;
+}
+
+uint64_t ref_add_area(struct kernelsun_tally *tally, const uint8_t *area, size_t len)
+{
+    if (tally_refused(tally)) {
+        return result(KERNELSUN_TALLY, 0);
+    }
+    if (tally->areas == KERNELSUN_AREAS_MOST) {
+        return result(KERNELSUN_FULL, 0);
+    }
+    tally->areas++;
+    if (!well_formed(area, len)) {
+        tally->skipped++;
+        return result(KERNELSUN_WENT, 0);
+    }
+    kernelsun_sizes s = kernelsun_sizes_of(area);
+    for (uint32_t p = 0; p < s.p; p++) {
+        add_block(tally, kernelsun_word(area, kernelsun_at_block(&s, p, KERNELSUN_BLOCK_HEADER)),
+                  kernelsun_word(area, kernelsun_at_block(&s, p, KERNELSUN_BLOCK_WEAR)));
+    }
     return result(KERNELSUN_WENT, 0);
 }

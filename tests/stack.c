@@ -61,6 +61,20 @@ static void steps(void)
     require(kernelsun_value(r) == 1, "the levelling moves a content");
 }
 
+/* The area as it is, bytes that are none, and a tally that is refused. */
+static void adds(void)
+{
+    struct kernelsun_tally tally = {0};
+    uint64_t r = add_area(&tally, area, sizeof area);
+    require(kernelsun_number(r) == KERNELSUN_WENT && tally.blocks == KERNELSUN_PHYSICAL_MOST,
+            "add_area");
+    r = add_area(&tally, area, sizeof area - 1);
+    require(kernelsun_number(r) == KERNELSUN_WENT && tally.skipped == 1, "add_area of no area");
+    tally.areas = KERNELSUN_AREAS_MOST + 1;
+    r = add_area(&tally, area, sizeof area);
+    require(kernelsun_number(r) == KERNELSUN_TALLY, "add_area to a tally that is none");
+}
+
 static uint8_t *from;
 
 static void *call_it(void *calls)
@@ -101,10 +115,13 @@ int main(void)
     formats();
     begins();
     steps();
+    adds();
     size_t of_format = taken(formats), of_begin = taken(begins), of_step = taken(steps);
-    printf("stack: step %u, begin %u, format %u bytes\n", (unsigned)of_step, (unsigned)of_begin,
-           (unsigned)of_format);
-    require(of_step <= STEP_MOST && of_begin <= OTHERS_MOST && of_format <= OTHERS_MOST,
+    size_t of_add_area = taken(adds);
+    printf("stack: step %u, begin %u, format %u, add_area %u bytes\n", (unsigned)of_step,
+           (unsigned)of_begin, (unsigned)of_format, (unsigned)of_add_area);
+    require(of_step <= STEP_MOST && of_begin <= OTHERS_MOST && of_format <= OTHERS_MOST &&
+                of_add_area <= OTHERS_MOST,
             "more stack than the header says");
     return 0;
 }

@@ -371,7 +371,8 @@ static void check_names(void)
     static const char *const names[] = {
         [0] = "WENT",       [1] = "FINISHED", [2] = "BLOCKED", [10] = "SHAPE",
         [11] = "THREAD",    [12] = "BUSY",    [13] = "IDLE",   [14] = "LOGICAL",
-        [15] = "OPERATION", [16] = "FAULT",   [17] = "LIMITS", [300] = NULL,
+        [15] = "OPERATION", [16] = "FAULT",   [17] = "LIMITS", [29] = "TALLY",
+        [30] = "FULL",      [300] = NULL,
     };
     static const char *const operations[] = {"idle", "write", "read", "unmap", "level", "?", "?"};
     about("names of numbers and of operations");

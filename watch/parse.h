@@ -25,7 +25,7 @@ typedef struct {
     char fields[FIELDS_KEPT][FIELD_SIGNS + 1];
 } script_line;
 
-/* The three calls and a run of steps, by the letter that stands for each. */
+/* The calls format, begin and step, and a run of steps, by the letter that stands for each. */
 typedef enum { COMMAND_FORMAT, COMMAND_BEGIN, COMMAND_STEP, COMMAND_RUN } command_kind;
 
 typedef struct {

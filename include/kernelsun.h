@@ -80,12 +80,14 @@
  *
  * THE WEAR SHEET
  *
- * add_area() adds an area to a record that you lend, the tally: blocks seen, free
- * blocks, least and most wear, and the exact sum of wear, over up to 200 areas
- * one after the other, in any order. A tally starts as all zeros. An area that is
- * not well formed, by the test that gives KERNELSUN_SHAPE elsewhere, is counted as
- * an area and as skipped, and no more. Areas are only read; they may have open
- * work.
+ * add_area() adds an area to a record that you lend, the tally: how many blocks
+ * there are and how many are free, the least and the most wear, and the sum of
+ * wear, which is exact, over up to 200 areas one after the other. In which order
+ * they come doesn't change the tally: that is proved. A tally starts as all zeros,
+ * and one that only this function changed is never refused as damaged: proved too.
+ * An area that is not well formed, by the test that gives KERNELSUN_SHAPE elsewhere,
+ * is counted as an area and as skipped, and no more. Areas are only read; they may
+ * have open work.
  *
  *     struct kernelsun_tally tally = {0};
  *     for (i = 0; i < count; i++) {

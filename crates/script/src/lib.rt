@@ -241,7 +241,7 @@ fn next_line(input: &[u8], at: usize) -> Line
 // ---- printing
 
 // Each function that writes puts its bytes at a place, and the place after them comes back.
-fn put_byte(out: &mut [u8], at: usize, b: u8) -> usize
+pub fn put_byte(out: &mut [u8], at: usize, b: u8) -> usize
     requires { ⌜ at < length (now out) ⌝ }
     ensures { λ r. ⌜ Wrote (now (out .entry)) at (b ∷ []) r (now (out .exit)) ⌝ }
 {
@@ -250,7 +250,7 @@ fn put_byte(out: &mut [u8], at: usize, b: u8) -> usize
 }
 
 // The digits of a number, of which there are at most `most`.
-fn put_figures(out: &mut [u8], at: usize, most: u32, value: u32) -> usize
+pub fn put_figures(out: &mut [u8], at: usize, most: u32, value: u64) -> usize
     requires { ⌜ at + most ≤ length (now out) ⌝ }
     ensures { λ r. ⌜ Wrote (now (out .entry)) at (figures most value) r (now (out .exit)) ⌝ }
 {
@@ -270,9 +270,9 @@ fn put_reply(out: &mut [u8], at: usize, number: u32, value: u32) -> usize
     requires { ⌜ at + mostPrinted ≤ length (now out) ⌝ }
     ensures { λ r. ⌜ Wrote (now (out .entry)) at (printed number value) r (now (out .exit)) ⌝ }
 {
-    let at1 = put_figures(out, at, FIGURES, number);
+    let at1 = put_figures(out, at, FIGURES, number as u64);
     let at2 = put_byte(out, at1, BLANK);
-    let at3 = put_figures(out, at2, FIGURES, value);
+    let at3 = put_figures(out, at2, FIGURES, value as u64);
     put_byte(out, at3, NEWLINE)
 }
 

@@ -2,17 +2,10 @@
 -- block was seen.
 use mathlib.Core.List.{List, [], _∷_, _++_}
 use Prim.Native.Nat.{ℕ, _+_, _*_}
-use Prim.Native.Char.{code}
 use Prim.Native.String.{String}
-use Prim.Native.String as string
 use Rattle.script.specs.Syntax.{NEWLINE}
-use Rattle.script.specs.Printing.{figures}
+use Rattle.script.specs.Printing.{bytesOf, figures}
 use Rattle.sheet.specs.Sheet.{Sheet, Wear, none, some}
-
--- the bytes of a text in ASCII
-abbrev pub bytesOf : String → List ℕ
-bytesOf string.[] = []
-bytesOf (string._∷_ c text) = code c ∷ bytesOf text
 
 -- a number of 64 bits has at most twenty digits
 abbrev pub mostDigits : ℕ

@@ -4,10 +4,10 @@ use mathlib.Core.List.{List, [], _∷_, _++_}
 use Prim.Native.Nat.{ℕ}
 use Prim.Native.String.{String}
 use Rattle.script.specs.Syntax.{NEWLINE}
-use Rattle.script.specs.Printing.{figures}
+use Rattle.script.specs.Printing.{bytesOf, figures}
 use Rattle.sheet.specs.Sheet.{sheetOf}
 use Rattle.sheet.specs.Adding.{shown}
-use Rattle.page.specs.Page.{bytesOf, number, pageOf}
+use Rattle.page.specs.Page.{number, pageOf}
 
 abbrev lines : List String → List ℕ
 lines [] = []

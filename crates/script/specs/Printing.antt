@@ -3,9 +3,17 @@ use mathlib.Core.Bool.{cond}
 use mathlib.Core.Path.{_≡_}
 use mathlib.Core.List.{List, [], _∷_, _++_}
 use Prim.Native.Nat.{ℕ, zero, suc, _+_, _/_, _%_}
+use Prim.Native.Char.{code}
+use Prim.Native.String.{String}
+use Prim.Native.String as string
 use lib.ListN.{length, take, drop}
 use lib.Dec.{ltb}
 use Rattle.script.specs.Syntax.{NEWLINE, BLANK, ZERO}
+
+-- the bytes of a text in ASCII
+abbrev pub bytesOf : String → List ℕ
+bytesOf string.[] = []
+bytesOf (string._∷_ c text) = code c ∷ bytesOf text
 
 -- the digits of v, of which there are at most so many
 unfoldable pub figures : ℕ → ℕ → List ℕ

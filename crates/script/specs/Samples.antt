@@ -2,21 +2,14 @@
 use mathlib.Core.Path.{_≡_, refl}
 use mathlib.Core.List.{List, [], _∷_, _++_, map}
 use Prim.Native.Nat.{ℕ}
-use Prim.Native.Char.{code}
 use Prim.Native.String.{String}
-use Prim.Native.String as string
 use Rattle.meaning.specs.Numbers.{SHAPE}
 use Rattle.meaning.specs.Call.{Entry}
 use Rattle.store.specs.Area.{wellFormed}
 use Rattle.store.specs.Calls.{callArea}
 use Rattle.script.specs.Syntax.{NEWLINE, BLANK, ZERO, NINE, LETTER-B, LETTER-F, LETTER-S}
-use Rattle.script.specs.Printing.{figures}
+use Rattle.script.specs.Printing.{bytesOf, figures}
 use Rattle.script.specs.Output.{output}
-
--- the bytes of a text in ASCII
-abbrev bytesOf : String → List ℕ
-bytesOf string.[] = []
-bytesOf (string._∷_ c text) = code c ∷ bytesOf text
 
 abbrev joined : List String → List ℕ
 joined [] = []

@@ -86,8 +86,8 @@
  * they come doesn't change the tally: that is proved. A tally starts as all zeros,
  * and one that only this function changed is never refused as damaged: proved too.
  * An area that is not well formed, by the test that gives KERNELSUN_SHAPE elsewhere,
- * is counted as an area and as skipped, and no more. Areas are only read; they may
- * have open work.
+ * adds 1 to the areas and 1 to those that were skipped, and nothing else. Areas are
+ * only read; they may have open work.
  *
  *     struct kernelsun_tally tally = {0};
  *     for (i = 0; i < count; i++) {
@@ -101,8 +101,9 @@
  *     }
  *
  * With no blocks seen there is no mean, and least and most say nothing. A tally
- * may be copied, saved and brought back like an area. Counts that no areas can
- * have left are refused (KERNELSUN_TALLY); other damage is not noticed.
+ * may be copied, saved and brought back like an area. One with counts past the
+ * bounds that add_area() states is refused (KERNELSUN_TALLY); other damage is not
+ * noticed.
  *
  * WHAT COMES BACK
  *
@@ -283,10 +284,9 @@ typedef char kernelsun_tally_is_as_in_the_library[
  * what stands in least and most is not looked at. An area that is not well formed
  * adds 1 to areas and 1 to skipped, and changes nothing else.
  *
- * Gives WENT; or, the first that applies, TALLY (the tally has over 200 areas,
- * more skipped ones than areas, more blocks than 512 for each area that was not
- * skipped, more free blocks than blocks, or a sum over 4,294,967,295 times its
- * blocks), FULL (it has 200 areas).
+ * Gives WENT; or, the first that applies, TALLY (areas is over 200, or skipped over
+ * areas, or blocks over 512 * (areas - skipped), or free over blocks, or sum over
+ * 4294967295 * blocks), FULL (areas is 200).
  *
  * tally points to a tally that may be read and written, area to len bytes that
  * may be read, neither is NULL, area not even where len is 0, and the two don't

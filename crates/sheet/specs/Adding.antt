@@ -38,7 +38,7 @@ plausible t =
     && leb (t .free) (t .blocks)
     && leb (t .sum) (mostWord * t .blocks)
 
--- what the page shows of it: with no blocks seen, least and most don't count
+-- what the page shows of it: before the first block, nothing of least and most
 abbrev pub shown : Tally → Sheet
 shown t =
     record {

@@ -2,13 +2,12 @@
 use mathlib.Core.Path.{_≡_, refl}
 use mathlib.Core.List.{List, [], _∷_, map}
 use Prim.Native.Nat.{ℕ}
-use Rattle.meaning.specs.Numbers.{WENT}
 use Rattle.meaning.specs.Table.{upd}
 use Rattle.meaning.specs.Store.{idle}
 use Rattle.store.specs.Area.{encode, wellFormed}
 use Rattle.sheet.specs.declared.Tally.{Tally}
 use Rattle.sheet.specs.Sheet.{none, some, sheetOf}
-use Rattle.sheet.specs.Adding.{TALLY, FULL, zeros, addArea, addAll}
+use Rattle.sheet.specs.Adding.{zeros, addArea, addAll}
 
 -- one thread, number 0 mapped to block 0, and a free block 1, with these wears
 abbrev small : ℕ → ℕ → List ℕ
@@ -53,7 +52,7 @@ pub none-seen :
 unfolding wellFormed
 none-seen = refl
 
--- with no blocks seen, least and most don't count: a malformed area leaves them, a well-formed one sets both
+-- before the first block, least and most mean nothing: a malformed area leaves them, a well-formed one sets both
 abbrev unseen : Tally
 unseen = record { areas = 1; skipped = 1; blocks = 0; free = 0; least = 9; most = 4; sum = 0 }
 
@@ -73,7 +72,8 @@ abbrev tally : ℕ → ℕ → ℕ → ℕ → ℕ → Tally
 tally areas skipped blocks free sum =
     record { areas = areas; skipped = skipped; blocks = blocks; free = free; least = 0; most = 0; sum = sum }
 
--- the last tally that is taken, and beside it the first that is not: in skipped, blocks, free blocks and the sum; and in areas, where 200 is FULL
+-- the last tally that is taken, and beside it the first that is not: in skipped, blocks, free blocks and the sum; and in areas, where 200 is FULL.
+-- The numbers are numerals here
 pub bounds :
     numbers
     (tally 3 3 0 0 0 ∷ tally 3 4 0 0 0
@@ -82,6 +82,6 @@ pub bounds :
     ∷ tally 1 0 2 0 8589934590 ∷ tally 1 0 2 0 8589934591
     ∷ tally 199 0 0 0 0 ∷ tally 200 0 0 0 0 ∷ tally 201 0 0 0 0
     ∷ [])
-    ≡ WENT ∷ TALLY ∷ WENT ∷ TALLY ∷ WENT ∷ TALLY ∷ WENT ∷ TALLY ∷ WENT ∷ FULL ∷ TALLY ∷ []
+    ≡ 0 ∷ 29 ∷ 0 ∷ 29 ∷ 0 ∷ 29 ∷ 0 ∷ 29 ∷ 0 ∷ 30 ∷ 29 ∷ []
 unfolding wellFormed
 bounds = refl

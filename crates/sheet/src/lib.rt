@@ -17,7 +17,7 @@ use store::Store;
 
 // ---- the tally
 
-// What was seen so far. With no blocks seen, `least` and `most` count for nothing.
+// What was seen so far. Before the first block, `least` and `most` mean nothing.
 #[repr(C)]
 pub struct Tally {
     pub areas: u32,

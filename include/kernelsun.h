@@ -288,9 +288,9 @@ typedef char kernelsun_tally_is_as_in_the_library[
  * areas, or blocks over 512 * (areas - skipped), or free over blocks, or sum over
  * 4294967295 * blocks), FULL (areas is 200).
  *
- * tally points to a tally that may be read and written, area to len bytes that
- * may be read, neither is NULL, area not even where len is 0, and the two don't
- * overlap.
+ * tally points to a tally that may be read and written, with the alignment of its
+ * type, and area to len bytes that may be read, at any alignment. Neither is NULL,
+ * area not even where len is 0, and the two don't overlap.
  */
 KERNELSUN_RESULT
 uint64_t add_area(struct kernelsun_tally *tally, const uint8_t *area, size_t len);

@@ -36,18 +36,23 @@ static void save(const char *name, size_t bytes)
     require(fclose(file) == 0, path);
 }
 
-static void make(uint32_t t, uint32_t n, uint32_t p)
+static void make(uint32_t t, uint32_t n, uint32_t p, uint32_t d)
 {
     memset(area, 0, sizeof area);
     len = KERNELSUN_LENGTH(t, n, p);
-    require(kernelsun_number(format(area, len, t, n, p, 1)) == KERNELSUN_WENT, "format");
+    require(kernelsun_number(format(area, len, t, n, p, d)) == KERNELSUN_WENT, "format");
+}
+
+static void wear_one(uint32_t p, uint32_t wear)
+{
+    kernelsun_sizes sizes = kernelsun_sizes_of(area);
+    put_word(area, kernelsun_at_block(&sizes, p, KERNELSUN_BLOCK_WEAR), wear);
 }
 
 static void wear_all(uint32_t wear)
 {
-    kernelsun_sizes sizes = kernelsun_sizes_of(area);
-    for (uint32_t p = 0; p < sizes.p; p++) {
-        put_word(area, kernelsun_at_block(&sizes, p, KERNELSUN_BLOCK_WEAR), wear);
+    for (uint32_t p = 0; p < kernelsun_p(area); p++) {
+        wear_one(p, wear);
     }
 }
 
@@ -69,7 +74,7 @@ static void does(uint32_t op, uint32_t n, uint32_t c)
 /* Number 0 is written, rewritten and unmapped four times, 1 is written, and a write of 2 is open. */
 static void grow(void)
 {
-    make(2, 3, 5);
+    make(2, 3, 5, 1);
     for (uint32_t i = 0; i < 4; i++) {
         does(KERNELSUN_WRITE, 0, i);
         does(KERNELSUN_WRITE, 0, i);
@@ -82,6 +87,33 @@ static void grow(void)
     }
 }
 
+/* Block p has the content of number n. */
+static void use_block(uint32_t p, uint32_t n, uint32_t content)
+{
+    kernelsun_sizes sizes = kernelsun_sizes_of(area);
+    put_word(area, kernelsun_at_map(&sizes, n), p + 1);
+    put_word(area, kernelsun_at_block(&sizes, p, KERNELSUN_BLOCK_HEADER), n + 1);
+    put_word(area, kernelsun_at_block(&sizes, p, KERNELSUN_BLOCK_CONTENT), content);
+}
+
+/* The files of crates/wearsheet/data. */
+static void stored(void)
+{
+    static const uint32_t wear[] = {6, 11, 2, 4};
+    make(2, 2, 4, 3);
+    use_block(0, 0, 7);
+    use_block(2, 1, 9);
+    for (uint32_t p = 0; p < 4; p++) {
+        wear_one(p, wear[p]);
+    }
+    save("tracks", len);
+    save("cut", len - 1);
+    make(1, 1, 2, 1);
+    wear_one(0, 3);
+    wear_one(1, 5);
+    save("small", len);
+}
+
 int main(int count, char **words)
 {
     if (count != 2) {
@@ -90,14 +122,14 @@ int main(int count, char **words)
     }
     folder = words[1];
 
-    make(1, 1, 2);
+    make(1, 1, 2, 1);
     save("smallest", len);
     save("short", len - 1);
     save("long", len + 1);
     put_word(area, KERNELSUN_AT_LOCK, 2);
     save("lock_of_nobody", len);
 
-    make(16, 256, 512);
+    make(16, 256, 512, 1);
     save("largest", len);
     save("longer", len + 1);
     wear_all(KERNELSUN_WEAR_MOST);
@@ -106,9 +138,10 @@ int main(int count, char **words)
     grow();
     save("grown", len);
 
-    make(1, 2, 4);
+    make(1, 2, 4, 1);
     wear_all(3);
     save("even", len);
     save("empty", 0);
+    stored();
     return 0;
 }

@@ -1,7 +1,7 @@
 -- What the calls come to that start from a tally of zeros: which number each gives, and that the sheet is one definition over all blocks of all
 -- well-formed areas, whatever the areas' order. Assumes nothing.
 use mathlib.Core.Path.{_≡_, refl, sym, ap, subst, _∙_}
-use mathlib.Core.Bool.{true}
+use mathlib.Core.Bool.{true, cond}
 use mathlib.Core.List.{List, [], _∷_, Perm, List·Permᴰ, List·Permᴰ·nil, List·Permᴰ·cons, List·Permᴰ·swap, List·Permᴰ·trans}
 use mathlib.Core.Logic.{∥∥₁-elim}
 use Prim.Native.Nat.{ℕ, zero, suc, _+_, _<_, _≤_}
@@ -19,8 +19,8 @@ use Rattle.store.specs.Area.{Bytes, word, decode, wellFormed}
 use Rattle.store.proofs.Bytes.{word-low}
 use Rattle.sheet.specs.declared.Tally.{Tally}
 use Rattle.sheet.specs.Sheet.{Block, firstBlocks, storeBlocks, blocksOf, sheetOf}
-use Rattle.sheet.specs.Adding.{TALLY, FULL, mostAreas, zeros, shown, withBlock, withBlocks, counted, withArea, answer, addArea, AddMeans}
-use Rattle.sheet.specs.Adding.{addAll, AllBytes, FromZeros, start, call}
+use Rattle.sheet.specs.Adding.{TALLY, FULL, mostAreas, zeros, plausible, shown, withBlock, withBlocks, counted, withArea, withExtremes}
+use Rattle.sheet.specs.Adding.{answer, addArea, AddMeans, addAll, AllBytes, FromZeros, start, call}
 use Rattle.sheet.specs.Room.{Room}
 use Rattle.sheet.proofs.Rooms.{Plausible, plausible-facts, facts-plausible, roomy, room-less, room-next, blocks-areas, sized}
 use Rattle.sheet.proofs.Turns.{area-counted, inTurn, turn-order, turn-tally}
@@ -167,7 +167,8 @@ module _ {these those : List (List ℕ)} (bytes : AllBytes these) (few : length 
       ∙ turn-order d zeros
       ∙ sym (whole those (perm-bytes d bytes) (omega (arith, perm-length d)) .turned)
 
-  -- a count of it; the permutation is one that there is, with no way to tell which, so that what follows from it must be a proposition
+  -- each count by itself: `Perm` says that there is a way from one list to the other, and not which one, so what is drawn from it has to be a
+  -- proposition, as an equality of two numbers is
   count : Perm these those → (f : Tally → ℕ) → f (addAll zeros these) ≡ f (addAll zeros those)
   count p f = ∥∥₁-elim p (ℕ-set _ _) (λ d. ap f (same d))
 
@@ -184,30 +185,45 @@ module _ {these those : List (List ℕ)} (bytes : AllBytes these) (few : length 
         sum = count p (λ t. t .sum) i;
       }
 
--- ---- least and most with no blocks seen
+-- ---- each call by itself
 
--- the tally with other numbers for least and most
-abbrev pub guessing : Tally → ℕ → ℕ → Tally
-guessing t least most =
-    record { areas = t .areas; skipped = t .skipped; blocks = t .blocks; free = t .free; least = least; most = most; sum = t .sum }
+module _ (t : Tally) (a : List ℕ) where
+  -- where it isn't WENT that comes back, the tally is as it was
+  pub refused-leaves : (addArea t a .number ≡ WENT → ⊥) → addArea t a .after ≡ t
+  refused-leaves other =
+      either-way (plausible t)
+      (λ e. either-way (ltb (t .areas) mostAreas) (λ l. absurd (other (rw (e, l)))) (λ l. rw (e, l)))
+      (λ e. rw e)
 
-module _ (t : Tally) (none : t .blocks ≡ 0) (x y : ℕ) where
-  some-blocks : (b : Block) (bs : List Block) → withBlocks (guessing t x y) (b ∷ bs) ≡ withBlocks t (b ∷ bs)
-  some-blocks b [] = rw none
-  some-blocks b (c ∷ bs) = ap (λ u. withBlock u b) (some-blocks c bs)
+  -- the number depends on the counts alone, and not on the area
+  number-is : addArea t a .number ≡ cond (plausible t) (cond (ltb (t .areas) mostAreas) WENT FULL) TALLY
+  number-is =
+      either-way (plausible t)
+      (λ e. either-way (ltb (t .areas) mostAreas) (λ l. rw (e, l)) (λ l. rw (e, l)))
+      (λ e. rw e)
 
-  many-blocks : (s : Store) (m : ℕ) → 1 ≤ m → withBlocks (guessing t x y) (firstBlocks s m) ≡ withBlocks t (firstBlocks s m)
-  many-blocks s zero low = absurd (omega arith)
-  many-blocks s (suc m) low = some-blocks (record { header = s .header m; wear = s .wear m }) (firstBlocks s m)
+  pub add-determined : {r r′ : ℕ} {x x′ : Tally} → AddMeans t a r x → AddMeans t a r′ x′ → (r ≡ r′) × (x ≡ x′)
+  add-determined one two = (one .0 ∙ sym (two .0), one .1 ∙ sym (two .1))
 
-  -- nothing of them is read: a well-formed area leaves the same, whatever they were
-  pub least-unread : (a : List ℕ) → wellFormed a ≡ true → withArea (guessing t x y) a ≡ withArea t a
-  least-unread a well =
-      let low : 1 ≤ word a pAt = omega (arith, sized a well .p-low) in
-      rw well (ap (counted 0) (many-blocks (decode a) (word a pAt) low))
+-- ---- least and most before the first block
 
--- ---- no choice
+module _ (t : Tally) (x y : ℕ) where
+  -- the number that comes back depends on them at no time
+  pub extremes-unread : (a : List ℕ) → addArea (withExtremes t x y) a .number ≡ addArea t a .number
+  extremes-unread a = number-is (withExtremes t x y) a ∙ sym (number-is t a)
 
-pub add-determined :
-    (t : Tally) (a : List ℕ) {r r′ : ℕ} {x x′ : Tally} → AddMeans t a r x → AddMeans t a r′ x′ → (r ≡ r′) × (x ≡ x′)
-add-determined t a one two = (one .0 ∙ sym (two .0), one .1 ∙ sym (two .1))
+  module _ (none : t .blocks ≡ 0) where
+    some-blocks : (b : Block) (bs : List Block) → withBlocks (withExtremes t x y) (b ∷ bs) ≡ withBlocks t (b ∷ bs)
+    some-blocks b [] = rw none
+    some-blocks b (c ∷ bs) = ap (λ u. withBlock u b) (some-blocks c bs)
+
+    many-blocks :
+        (s : Store) (m : ℕ) → 1 ≤ m → withBlocks (withExtremes t x y) (firstBlocks s m) ≡ withBlocks t (firstBlocks s m)
+    many-blocks s zero low = absurd (omega arith)
+    many-blocks s (suc m) low = some-blocks (record { header = s .header m; wear = s .wear m }) (firstBlocks s m)
+
+    -- and what a well-formed area leaves does not, where no block was seen
+    pub first-sets : (a : List ℕ) → wellFormed a ≡ true → withArea (withExtremes t x y) a ≡ withArea t a
+    first-sets a well =
+        let low : 1 ≤ word a pAt = omega (arith, sized a well .p-low) in
+        rw well (ap (counted 0) (many-blocks (decode a) (word a pAt) low))

@@ -108,6 +108,19 @@ abbrev pub AddMeans : Tally → List ℕ → ℕ → Tally → Type 0
 AddMeans entry area result exit =
     (result ≡ packed (addArea entry area .number) (addArea entry area .value)) × (exit ≡ addArea entry area .after)
 
+-- the tally with other numbers for least and most
+abbrev pub withExtremes : Tally → ℕ → ℕ → Tally
+withExtremes t least most =
+    record {
+      areas = t .areas;
+      skipped = t .skipped;
+      blocks = t .blocks;
+      free = t .free;
+      least = least;
+      most = most;
+      sum = t .sum;
+    }
+
 -- ---- areas in turn
 
 abbrev pub addAll : Tally → List (List ℕ) → Tally

@@ -3,7 +3,7 @@
 // proofs/Sheets.antt. The area is read through `&` and never changed.
 ghost use mathlib.Core.Path.{_≡_};
 ghost use mathlib.Core.Bool.{true, cond};
-ghost use Prim.Native.Nat.{_+_, _*_, _<_, _≤_};
+ghost use Prim.Native.Nat.{_+_, _<_, _≤_};
 ghost use Rattle.meaning.specs.Limits.{mostBlocks};
 ghost use Rattle.meaning.specs.Holding.{free};
 ghost use Rattle.store.specs.Layout.{blockWords};
@@ -48,7 +48,7 @@ const WENT: u64 = 0;
 
 const TALLY: u64 = 29 * 4294967296;
 
-const FULL: u64 = 30 * 4294967296;
+pub const FULL: u64 = 30 * 4294967296;
 
 // What a sheet starts from.
 pub fn zeros() -> Tally
@@ -65,7 +65,7 @@ pub fn zeros() -> Tally
     }
 }
 
-// A tally that adding areas to zeros could have left, as far as its counts tell.
+// None of the five things that TALLY is for.
 fn plausible(t: Tally) -> bool
     ensures { λ r. ⌜ r ≡ plausibleOf t ⌝ }
 {

@@ -17,9 +17,6 @@ const MOST_READ: usize = Store::LONGEST + 1;
 // A call's result is its number times this, and its value added.
 const PACK: u64 = 4294967296;
 
-// The number for an area beyond the 200th.
-const FULL: u64 = 30;
-
 // What was read of a file: whether a read failed, and how many bytes came before that.
 struct Got {
     failed: bool,
@@ -40,10 +37,10 @@ fn say(name: &[u8], what: &[u8]) {
     io::write_all(STDERR_FILENO, what);
 }
 
-fn say_refused(name: &[u8], number: u64) {
+fn say_refused(name: &[u8], result: u64) {
     say(name, b": refused with ");
-    io::print_decimal(STDERR_FILENO, number);
-    if number == FULL {
+    io::print_decimal(STDERR_FILENO, result / PACK);
+    if result == sheet::FULL {
         io::write_all(STDERR_FILENO, b" (FULL): the sheet has its 200 areas");
     }
     io::write_all(STDERR_FILENO, b"; no more files are read\n");
@@ -77,7 +74,7 @@ fn read_area(fd: i32, area: &mut [u8]) -> Got
 }
 
 // Adds what was read of a file, and says if it was skipped or refused.
-fn add_area(tally: Tally, name: &[u8], area: &[u8]) -> Turn
+fn add_bytes(tally: Tally, name: &[u8], area: &[u8]) -> Turn
     ensures { λ r. ⌜ r .tally ≡ addArea tally (now (area .entry)) .after ⌝ }
 {
     let Addition {
@@ -85,7 +82,7 @@ fn add_area(tally: Tally, name: &[u8], area: &[u8]) -> Turn
         tally: after,
     } = sheet::added(tally, area);
     if result != 0 {
-        say_refused(name, result / PACK);
+        say_refused(name, result);
         return Turn {
             tally: after,
             more: false,
@@ -118,7 +115,7 @@ fn add_file(tally: Tally, name: &[u8]) -> Turn {
     }
     libc::close(fd);
     let count = got.count;
-    add_area(tally, name, &area[..count])
+    add_bytes(tally, name, &area[..count])
 }
 
 // ---- the arguments

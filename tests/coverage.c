@@ -3,6 +3,8 @@
 
 #include <stdio.h>
 
+#include "fuzz.h"
+
 enum { NUMBERS = KERNELSUN_LIMITS + 1 };
 
 static unsigned long by_call[CALLS][NUMBERS];
@@ -253,23 +255,6 @@ static int report_operation(uint32_t op)
     return whole;
 }
 
-static int report_acts(void)
-{
-    size_t rarest = 0;
-    int whole = 1;
-    for (size_t i = 0; i < ACTS; i++) {
-        if (acts[i] < acts[rarest]) {
-            rarest = i;
-        }
-        if (acts[i] == 0) {
-            printf("  NEVER MET: %s\n", act_names[i]);
-            whole = 0;
-        }
-    }
-    printf("  %d acts, rarest: %s, %lu times\n", ACTS, act_names[rarest], acts[rarest]);
-    return whole;
-}
-
 static int report_call(int which, const char *name, const uint32_t *numbers, size_t count)
 {
     int whole = 1;
@@ -303,6 +288,6 @@ int coverage_is_whole(void)
     for (uint32_t op = KERNELSUN_WRITE; op <= KERNELSUN_LEVEL; op++) {
         whole &= report_operation(op);
     }
-    whole &= report_acts();
+    whole &= all_met("acts", act_names, acts, ACTS);
     return whole;
 }

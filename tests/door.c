@@ -196,15 +196,11 @@ static void check_idle_records(void)
 /* Areas of all zeros but for sizes outside the limits, each of the exact length. */
 static void check_sizes_outside(void)
 {
-    static const kernelsun_sizes bad[] = {
-        {0, 1, 2, 1},    {17, 1, 2, 1},    {1, 0, 2, 1},   {1, 257, 258, 1},
-        {1, 1, 1, 1},    {1, 256, 256, 1}, {1, 1, 513, 1}, {1, 1, 2, 0},
-        {1, 1, 2, 1001}, {1, 1, 2, MOST},  {0, 0, 0, 0},
-    };
     static area a;
     about("sizes outside the limits in an area of exact length");
-    for (size_t i = 0; i < COUNT(bad); i++) {
-        make_fresh(&a, bad[i].t, bad[i].n, bad[i].p, bad[i].d);
+    for (size_t i = 0; i < SIZES_OUTSIDE; i++) {
+        const kernelsun_sizes *bad = &sizes_outside[i];
+        make_fresh(&a, bad->t, bad->n, bad->p, bad->d);
         expect_refusal(&a, call_step(0), KERNELSUN_SHAPE);
         expect_refusal(&a, call_begin(0, KERNELSUN_LEVEL, 0, 0), KERNELSUN_SHAPE);
     }

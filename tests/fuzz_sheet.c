@@ -10,22 +10,14 @@
  * It fails at the first difference, if an outcome was never met, and if the time
  * ran out before that many calls were made.
  */
-#define _DEFAULT_SOURCE
 #include <stdio.h>
 #include <stdlib.h>
 #include <string.h>
-#include <time.h>
 
-#include "chance.h"
+#include "fuzz.h"
 #include "kit.h"
 #include "reference.h"
 
-#define SEED_DEFAULT 1990u
-#define CALLS_DEFAULT 400000u
-#define SECONDS_DEFAULT 50u
-
-static chance dice;
-static unsigned long long seed, calls_made;
 static area now;   /* what the next call adds */
 static tally lent; /* and what to */
 
@@ -183,19 +175,8 @@ static int report_bounds(void)
 /* Prints what was met in short. Gives 0 if something never was, and names it. */
 static int all_was_met(void)
 {
-    size_t rarest = 0;
-    int whole = report_bounds();
-    for (size_t i = 0; i < ACTS; i++) {
-        if (acts[i] < acts[rarest]) {
-            rarest = i;
-        }
-        if (acts[i] == 0) {
-            printf("  NEVER MET: %s\n", act_names[i]);
-            whole = 0;
-        }
-    }
-    printf("  %d outcomes, rarest: %s, %lu times\n", ACTS, act_names[rarest], acts[rarest]);
-    return whole;
+    int bounds = report_bounds();
+    return all_met("outcomes", act_names, acts, ACTS) && bounds;
 }
 
 /* ---- One call on both sides ---- */
@@ -418,38 +399,8 @@ static void one_round(void)
     }
 }
 
-static double seconds_now(void)
-{
-    struct timespec t;
-    clock_gettime(CLOCK_MONOTONIC, &t);
-    return (double)t.tv_sec + (double)t.tv_nsec / 1e9;
-}
-
-static unsigned long long argument(int argc, char **argv, int index, unsigned long long otherwise)
-{
-    return argc > index ? strtoull(argv[index], NULL, 10) : otherwise;
-}
-
 int main(int argc, char **argv)
 {
-    seed = argument(argc, argv, 1, SEED_DEFAULT);
-    unsigned long long wanted = argument(argc, argv, 2, CALLS_DEFAULT);
-    double most = (double)argument(argc, argv, 3, SECONDS_DEFAULT);
-    double start = seconds_now();
-    dice = chance_from(seed);
-    while (calls_made < wanted && seconds_now() - start < most) {
-        one_round();
-    }
-    double spent = seconds_now() - start;
-    printf("fuzz_sheet: seed %llu, %llu calls alike in %.1f s\n", seed, calls_made, spent);
-    int whole = all_was_met();
-    if (calls_made < wanted) {
-        printf("FAILED: time ran out before %llu calls\n", wanted);
-        return 1;
-    }
-    if (!whole) {
-        printf("FAILED: the run never met what it is there to meet\n");
-        return 1;
-    }
-    return 0;
+    static const fuzz_plan plan = {"fuzz_sheet", 400000, one_round, all_was_met};
+    return fuzz(&plan, argc, argv);
 }

@@ -31,6 +31,12 @@ call call_step(uint32_t thread)
     return c;
 }
 
+const kernelsun_sizes sizes_outside[SIZES_OUTSIDE] = {
+    {0, 1, 2, 1},    {17, 1, 2, 1},          {1, 0, 2, 1},   {1, 257, 258, 1},
+    {1, 1, 1, 1},    {1, 256, 256, 1},       {1, 1, 513, 1}, {1, 1, 2, 0},
+    {1, 1, 2, 1001}, {1, 1, 2, 0xffffffffu}, {0, 0, 0, 0},
+};
+
 /* ---- The guarded rooms ---- */
 
 static void allow(uint8_t *pages, size_t bytes, int access)

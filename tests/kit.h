@@ -25,6 +25,10 @@ typedef struct {
 
 typedef struct kernelsun_tally tally;
 
+/* Sizes of which one or more is outside its limits. */
+enum { SIZES_OUTSIDE = 11 };
+extern const kernelsun_sizes sizes_outside[SIZES_OUTSIDE];
+
 /* add_area is no such call: what it changes is a tally, and no area. */
 enum { CALL_FORMAT, CALL_BEGIN, CALL_STEP, CALLS };
 

@@ -1,4 +1,5 @@
--- A plausible tally, as facts, and one that has room for some blocks: for one less each time that one is added. Assumes nothing.
+-- A plausible tally, as facts; one that has room for some blocks, for one less each time that one is added; and the block records of a well-formed
+-- area. Assumes nothing.
 use mathlib.Core.Path.{_≡_, refl, sym, ap}
 use mathlib.Core.List.{List, [], _∷_}
 use mathlib.Core.Bool.{Bool, true, false, cond}
@@ -64,7 +65,7 @@ pub room-less : {t : Tally} {m n : ℕ} → n ≤ m → Room t m → Room t n
 room-less low r = record { few = omega (arith, r .few); free = r .free; sum = r .sum }
 
 pub room-next : {t : Tally} (b : Block) (n : ℕ) → b .wear ≤ mostWord → Room t (n + 1) → Room (withBlock t b) n
-room-next {t} b n low r =
+room-next b n low r =
     record {
       few = omega (arith, r .few);
       free = omega (arith, r .free, once (free (b .header)));

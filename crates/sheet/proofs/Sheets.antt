@@ -1,5 +1,5 @@
 -- What the calls come to that start from a tally of zeros: which number each gives, and that the sheet is one definition over all blocks of all
--- well-formed areas, whatever the areas' order. Assumes nothing.
+-- well-formed areas, whatever the areas' order. Then what holds of a call on any tally. Assumes nothing.
 use mathlib.Core.Path.{_≡_, refl, sym, ap, subst, _∙_}
 use mathlib.Core.Bool.{true, cond}
 use mathlib.Core.List.{List, [], _∷_, Perm, List·Permᴰ, List·Permᴰ·nil, List·Permᴰ·cons, List·Permᴰ·swap, List·Permᴰ·trans}
@@ -20,7 +20,7 @@ use Rattle.store.proofs.Bytes.{word-low}
 use Rattle.sheet.specs.declared.Tally.{Tally}
 use Rattle.sheet.specs.Sheet.{Block, firstBlocks, storeBlocks, blocksOf, sheetOf}
 use Rattle.sheet.specs.Adding.{TALLY, FULL, mostAreas, zeros, plausible, shown, withBlock, withBlocks, counted, withArea, withExtremes}
-use Rattle.sheet.specs.Adding.{answer, addArea, AddMeans, addAll, AllBytes, FromZeros, start, call}
+use Rattle.sheet.specs.Adding.{gives, addArea, AddMeans, addAll, AllBytes, FromZeros, start, call}
 use Rattle.sheet.specs.Room.{Room}
 use Rattle.sheet.proofs.Rooms.{Plausible, plausible-facts, facts-plausible, roomy, room-less, room-next, blocks-areas, sized}
 use Rattle.sheet.proofs.Turns.{area-counted, inTurn, turn-order, turn-tally}
@@ -28,10 +28,10 @@ use Rattle.sheet.proofs.Turns.{area-counted, inTurn, turn-order, turn-t
 -- ---- what is refused
 
 module _ {t : Tally} (f : Plausible t) (a : List ℕ) where
-  goes : t .areas < mostAreas → addArea t a ≡ answer WENT (withArea t a)
+  goes : t .areas < mostAreas → addArea t a ≡ gives WENT (withArea t a)
   goes low = rw (facts-plausible f, lt-ltb _ _ low)
 
-  stops : mostAreas ≤ t .areas → addArea t a ≡ answer FULL t
+  stops : mostAreas ≤ t .areas → addArea t a ≡ gives FULL t
   stops high = rw (facts-plausible f, le-ltb _ _ high)
 
 -- no wear is larger than a word
@@ -141,7 +141,7 @@ module _ (those : List (List ℕ)) (bytes : AllBytes those) where
       ap (λ r. r .number) (goes (w .plausible) a (omega (arith, w .areas)))
 
   -- and any after them is refused with FULL and adds nothing
-  pub sheet-full : length those ≡ mostAreas → (a : List ℕ) → addArea (addAll zeros those) a ≡ answer FULL (addAll zeros those)
+  pub sheet-full : length those ≡ mostAreas → (a : List ℕ) → addArea (addAll zeros those) a ≡ gives FULL (addAll zeros those)
   sheet-full full a =
       let w = whole (omega arith) in
       stops (w .plausible) a (omega (arith, w .areas))
@@ -185,7 +185,7 @@ module _ {these those : List (List ℕ)} (bytes : AllBytes these) (few : length 
         sum = count p (λ t. t .sum) i;
       }
 
--- ---- each call by itself
+-- ---- a call on any tally
 
 module _ (t : Tally) (a : List ℕ) where
   -- where it isn't WENT that comes back, the tally is as it was

@@ -94,14 +94,15 @@ withArea t a =
 
 -- ---- the call
 
-abbrev pub answer : ℕ → Tally → Reply Tally
-answer number t = record { number = number; value = 0; after = t }
+-- it gives back a number, with the value 0, and leaves a tally
+abbrev pub gives : ℕ → Tally → Reply Tally
+gives number t = record { number = number; value = 0; after = t }
 
 abbrev pub addArea : Tally → List ℕ → Reply Tally
 addArea t a =
     cond (plausible t)
-    (cond (ltb (t .areas) mostAreas) (answer WENT (withArea t a)) (answer FULL t))
-    (answer TALLY t)
+    (cond (ltb (t .areas) mostAreas) (gives WENT (withArea t a)) (gives FULL t))
+    (gives TALLY t)
 
 -- the exported function's contract: what comes back is the reply's number and value, packed, and the lent tally after the call is the reply's
 abbrev pub AddMeans : Tally → List ℕ → ℕ → Tally → Type 0

@@ -51,7 +51,7 @@ typedef struct {
     store *held;
     uint8_t *area;
     kernelsun_sizes s;
-    uint32_t thread, mine, next;
+    uint32_t thread, mine, bit, writing, next;
 } machine;
 
 static inline place both(const machine *m, uint32_t *held, size_t word)
@@ -130,7 +130,8 @@ uint64_t filled_step(uint8_t *area, size_t len, uint32_t thread)
     store held;
     memset(&held, 0, sizeof held);
     machine m = {.held = &held, .area = area, .s = kernelsun_sizes_of(area), .thread = thread,
-                 .mine = thread + 1};
+                 .mine = thread + 1, .bit = kernelsun_bit(thread),
+                 .writing = kernelsun_writing(thread)};
     load(&held, area, &m.s);
     return do_line(&m);
 }

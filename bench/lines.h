@@ -1,14 +1,18 @@
 /*
- * The lines of document 01, W3 as document 02, §1, has it, and the acts that they
- * are made of, once for the C versions of the benchmark. A version says where it
- * keeps words, and includes this file after it has defined
+ * The lines of document 01, W3 as document 02, §1, has it and block locks and
+ * block owners as §3 has them, and the acts that they are made of, once for the C
+ * versions of the benchmark. A version says where it keeps words, and includes
+ * this file after it has defined
  *
  *     place                     where a word stands
  *     get(place), put(place, v)
  *     machine                   one thread of a well-formed area; its fields
- *                               s (the sizes), mine (what a lock or an owner
- *                               holds when it is this thread's) and next (the
- *                               line that follows) are used here
+ *                               s (the sizes), mine (what H and the headers'
+ *                               owner hold when they are this thread's), bit
+ *                               (this thread among the readers of a block lock
+ *                               or of a block), writing (such a word when this
+ *                               thread writes) and next (the line that follows)
+ *                               are used here
  *     reg_place(m, field), header_lock(m), headers_owner(m),
  *     map_place(m, n), lock_place(m, n), block_place(m, p, field)
  *
@@ -40,7 +44,7 @@ static inline int is_mine(const machine *m, place word)
     return get(word) == m->mine;
 }
 
-/* ---- Locks and owners ---- */
+/* ---- H and the headers' owner ---- */
 
 static inline uint32_t take(const machine *m, place lock)
 {
@@ -67,6 +71,57 @@ static inline uint32_t let_go(const machine *m, place held)
         return KERNELSUN_FAULT;
     }
     put(held, 0);
+    return KERNELSUN_WENT;
+}
+
+/* ---- Block locks and the owners of blocks ---- */
+
+/* A writer's word is above every set, and no bit of it is a reader's. */
+static inline int i_read(const machine *m, place word)
+{
+    return (get(word) & m->bit) != 0;
+}
+
+static inline int i_write(const machine *m, place word)
+{
+    return get(word) == m->writing;
+}
+
+/* A lock that can't be had is BLOCKED, a block FAULT. */
+static inline uint32_t come_to_read(const machine *m, place word, uint32_t otherwise)
+{
+    uint32_t held = get(word);
+    if (held >= KERNELSUN_READER_SETS || (held & m->bit) != 0) {
+        return otherwise;
+    }
+    put(word, held | m->bit);
+    return KERNELSUN_WENT;
+}
+
+static inline uint32_t come_to_write(const machine *m, place word, uint32_t otherwise)
+{
+    if (get(word) != 0) {
+        return otherwise;
+    }
+    put(word, m->writing);
+    return KERNELSUN_WENT;
+}
+
+static inline uint32_t end_reading(const machine *m, place word)
+{
+    if (!i_read(m, word)) {
+        return KERNELSUN_FAULT;
+    }
+    put(word, get(word) & ~m->bit);
+    return KERNELSUN_WENT;
+}
+
+static inline uint32_t end_writing(const machine *m, place word)
+{
+    if (!i_write(m, word)) {
+        return KERNELSUN_FAULT;
+    }
+    put(word, 0);
     return KERNELSUN_WENT;
 }
 
@@ -133,7 +188,7 @@ static inline uint32_t look_up_to_read(machine *m, uint32_t if_mapped, uint32_t 
 
 static inline int may_write_header(const machine *m, uint32_t p)
 {
-    return is_mine(m, headers_owner(m)) && is_mine(m, block_place(m, p, KERNELSUN_BLOCK_OWNER));
+    return is_mine(m, headers_owner(m)) && i_write(m, block_place(m, p, KERNELSUN_BLOCK_OWNER));
 }
 
 static inline uint32_t write_header(const machine *m, uint32_t p, uint32_t header)
@@ -156,15 +211,15 @@ static inline uint32_t free_and_wear(const machine *m, uint32_t p)
     return KERNELSUN_WENT;
 }
 
-static inline int content_within_reach(const machine *m, uint32_t p)
+static inline int is_used(const machine *m, uint32_t p)
 {
-    return is_mine(m, block_place(m, p, KERNELSUN_BLOCK_OWNER)) &&
-           get(block_place(m, p, KERNELSUN_BLOCK_HEADER)) != 0;
+    return get(block_place(m, p, KERNELSUN_BLOCK_HEADER)) != 0;
 }
 
 static inline uint32_t read_content(const machine *m, uint32_t p)
 {
-    if (!content_within_reach(m, p)) {
+    place owner = block_place(m, p, KERNELSUN_BLOCK_OWNER);
+    if (!(i_read(m, owner) || i_write(m, owner)) || !is_used(m, p)) {
         return KERNELSUN_FAULT;
     }
     set_reg(m, KERNELSUN_THREAD_C, get(block_place(m, p, KERNELSUN_BLOCK_CONTENT)));
@@ -173,7 +228,7 @@ static inline uint32_t read_content(const machine *m, uint32_t p)
 
 static inline uint32_t write_content(const machine *m, uint32_t p, uint32_t content)
 {
-    if (!content_within_reach(m, p)) {
+    if (!i_write(m, block_place(m, p, KERNELSUN_BLOCK_OWNER)) || !is_used(m, p)) {
         return KERNELSUN_FAULT;
     }
     put(block_place(m, p, KERNELSUN_BLOCK_CONTENT), content);
@@ -272,33 +327,33 @@ static uint32_t write_line(machine *m, uint32_t line)
 {
     switch (line) {
     case 1: return take(m, header_lock(m));
-    case 2: return take(m, n_lock(m));
+    case 2: return come_to_write(m, n_lock(m), KERNELSUN_BLOCKED);
     case 3: return look_up_to_write(m, 12, 4);
     case 4: return own(m, headers_owner(m));
     case 5: return choose_free(m);
-    case 6: return own(m, owner_of(m, KERNELSUN_THREAD_P));
+    case 6: return come_to_write(m, owner_of(m, KERNELSUN_THREAD_P), KERNELSUN_FAULT);
     case 7: return write_header(m, reg(m, KERNELSUN_THREAD_P), reg(m, KERNELSUN_THREAD_N) + 1);
     case 8: return write_content(m, reg(m, KERNELSUN_THREAD_P), 0);
-    case 9: return let_go(m, owner_of(m, KERNELSUN_THREAD_P));
+    case 9: return end_writing(m, owner_of(m, KERNELSUN_THREAD_P));
     case 10: return map_to(m, reg(m, KERNELSUN_THREAD_P) + 1);
     case 11: return let_go(m, headers_owner(m));
     case 12: return let_go(m, header_lock(m));
-    case 13: return own(m, owner_of(m, KERNELSUN_THREAD_P));
+    case 13: return come_to_write(m, owner_of(m, KERNELSUN_THREAD_P), KERNELSUN_FAULT);
     case 14: return write_content(m, reg(m, KERNELSUN_THREAD_P), reg(m, KERNELSUN_THREAD_C));
-    case 15: return let_go(m, owner_of(m, KERNELSUN_THREAD_P));
-    default: return let_go(m, n_lock(m));
+    case 15: return end_writing(m, owner_of(m, KERNELSUN_THREAD_P));
+    default: return end_writing(m, n_lock(m));
     }
 }
 
 static uint32_t read_line(machine *m, uint32_t line)
 {
     switch (line) {
-    case 1: return take(m, n_lock(m));
+    case 1: return come_to_read(m, n_lock(m), KERNELSUN_BLOCKED);
     case 2: return look_up_to_read(m, 3, 6);
-    case 3: return own(m, owner_of(m, KERNELSUN_THREAD_P));
+    case 3: return come_to_read(m, owner_of(m, KERNELSUN_THREAD_P), KERNELSUN_FAULT);
     case 4: return read_content(m, reg(m, KERNELSUN_THREAD_P));
-    case 5: return let_go(m, owner_of(m, KERNELSUN_THREAD_P));
-    default: return let_go(m, n_lock(m));
+    case 5: return end_reading(m, owner_of(m, KERNELSUN_THREAD_P));
+    default: return end_reading(m, n_lock(m));
     }
 }
 
@@ -306,15 +361,15 @@ static uint32_t unmap_line(machine *m, uint32_t line)
 {
     switch (line) {
     case 1: return take(m, header_lock(m));
-    case 2: return take(m, n_lock(m));
+    case 2: return come_to_write(m, n_lock(m), KERNELSUN_BLOCKED);
     case 3: return look_up(m, 4, 10);
     case 4: return own(m, headers_owner(m));
-    case 5: return own(m, owner_of(m, KERNELSUN_THREAD_P));
+    case 5: return come_to_write(m, owner_of(m, KERNELSUN_THREAD_P), KERNELSUN_FAULT);
     case 6: return map_to(m, 0);
     case 7: return free_and_wear(m, reg(m, KERNELSUN_THREAD_P));
-    case 8: return let_go(m, owner_of(m, KERNELSUN_THREAD_P));
+    case 8: return end_writing(m, owner_of(m, KERNELSUN_THREAD_P));
     case 9: return let_go(m, headers_owner(m));
-    case 10: return let_go(m, n_lock(m));
+    case 10: return end_writing(m, n_lock(m));
     default: return let_go(m, header_lock(m));
     }
 }
@@ -327,17 +382,17 @@ static uint32_t level_line(machine *m, uint32_t line)
     case 3: return choose_from_and_to(m);
     case 4: return read_header(m, reg(m, KERNELSUN_THREAD_P));
     case 5: return look_at_header(m, 17);
-    case 6: return take(m, n_lock(m));
-    case 7: return own(m, owner_of(m, KERNELSUN_THREAD_P));
+    case 6: return come_to_write(m, n_lock(m), KERNELSUN_BLOCKED);
+    case 7: return come_to_write(m, owner_of(m, KERNELSUN_THREAD_P), KERNELSUN_FAULT);
     case 8: return read_content(m, reg(m, KERNELSUN_THREAD_P));
-    case 9: return own(m, owner_of(m, KERNELSUN_THREAD_Q));
+    case 9: return come_to_write(m, owner_of(m, KERNELSUN_THREAD_Q), KERNELSUN_FAULT);
     case 10: return write_header(m, reg(m, KERNELSUN_THREAD_Q), reg(m, KERNELSUN_THREAD_H));
     case 11: return write_content(m, reg(m, KERNELSUN_THREAD_Q), reg(m, KERNELSUN_THREAD_C));
     case 12: return map_to(m, reg(m, KERNELSUN_THREAD_Q) + 1);
     case 13: return free_and_wear(m, reg(m, KERNELSUN_THREAD_P));
-    case 14: return let_go(m, owner_of(m, KERNELSUN_THREAD_Q));
-    case 15: return let_go(m, owner_of(m, KERNELSUN_THREAD_P));
-    case 16: return let_go(m, n_lock(m));
+    case 14: return end_writing(m, owner_of(m, KERNELSUN_THREAD_Q));
+    case 15: return end_writing(m, owner_of(m, KERNELSUN_THREAD_P));
+    case 16: return end_writing(m, n_lock(m));
     case 17: return let_go(m, headers_owner(m));
     default: return let_go(m, header_lock(m));
     }

@@ -41,12 +41,13 @@ static inline place word_at(place table, size_t index)
 typedef struct {
     place head, record, map, locks, blocks;
     kernelsun_sizes s;
-    uint32_t mine, next;
+    uint32_t mine, bit, writing, next;
 } machine;
 
 static inline machine machine_at(uint8_t *area, uint32_t thread)
 {
-    machine m = {.head = area, .s = kernelsun_sizes_of(area), .mine = thread + 1};
+    machine m = {.head = area, .s = kernelsun_sizes_of(area), .mine = thread + 1,
+                 .bit = kernelsun_bit(thread), .writing = kernelsun_writing(thread)};
     m.record = word_at(area, kernelsun_at_thread(thread, 0));
     m.map = word_at(area, kernelsun_at_map(&m.s, 0));
     m.locks = word_at(area, kernelsun_at_lock(&m.s, 0));
@@ -127,18 +128,29 @@ static inline int records_well_formed(const uint8_t *area, const kernelsun_sizes
     return 1;
 }
 
-/* Two columns of a table, each word at most its bound, `stride` words from row to row. */
-static inline int columns_well_formed(const uint8_t *first, uint32_t first_most,
-                                      const uint8_t *second, uint32_t second_most, size_t stride,
-                                      uint32_t count)
+/* A block lock or a block's owner: a set of threads below t, or one of them as the writer. */
+static inline int holders_well_formed(uint32_t word, uint32_t t)
+{
+    return (word < (uint32_t)1 << t) |
+           ((word % KERNELSUN_READER_SETS == 0) & (word <= KERNELSUN_READER_SETS * t));
+}
+
+/*
+ * Two columns of a table, `stride` words from row to row: words of at most `most`, and holders.
+ * Where nearly all of these are 0, that is what is asked first.
+ */
+static inline int columns_well_formed(const uint8_t *first, uint32_t most, const uint8_t *holders,
+                                      uint32_t t, size_t stride, uint32_t count)
 {
     int good = 1;
     for (uint32_t i = 0; i < count; i++) {
-        uint32_t x = kernelsun_word(first, stride * i), y = kernelsun_word(second, stride * i);
-        if (PLAIN_LEAVES_EARLY && (x > first_most || y > second_most)) {
+        uint32_t x = kernelsun_word(first, stride * i), y = kernelsun_word(holders, stride * i);
+        if (PLAIN_LEAVES_EARLY && (x > most || (y != 0 && !holders_well_formed(y, t)))) {
             return 0;
         }
-        good &= (x <= first_most) & (y <= second_most);
+        if (!PLAIN_LEAVES_EARLY) {
+            good &= (x <= most) & holders_well_formed(y, t);
+        }
     }
     return good;
 }

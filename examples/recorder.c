@@ -11,8 +11,9 @@
  *
  * Each track writes its own logical blocks over and over, reads them back and
  * erases some, so that blocks wear. A title and an archive are written once and
- * stay, and levelling moves them to worn blocks. At the end all contents are
- * read once more and the area is looked over.
+ * stay, and levelling moves them to worn blocks. All tracks read the title, which
+ * several may do at one time, while a levelling of it waits for all of them. At
+ * the end all contents are read once more and the area is looked over.
  *
  * Why each loop that steps comes to its end: in an area that only the library
  * changed, some thread with open work can always step. That is proved. No
@@ -135,11 +136,11 @@ static int open_operation(uint32_t thread, uint32_t op, uint32_t n, uint32_t con
     return open;
 }
 
-/* Under the mutex, of a thread that was blocked: whether another one holds what it waits for. */
-static int waits_for_another(uint32_t thread)
+/* Under the mutex, of a thread that was blocked: whether it waits for others, and not for itself. */
+static int waits_for_others(uint32_t thread)
 {
-    uint32_t holder = kernelsun_lock_holder(area, kernelsun_next_lock(area, thread));
-    return holder != KERNELSUN_NONE && holder != thread;
+    uint32_t threads = kernelsun_waits_for(area, thread);
+    return threads != 0 && (threads & kernelsun_bit(thread)) == 0;
 }
 
 /* Under the mutex: what follows from a step's number. */
@@ -149,7 +150,7 @@ static void after_step(uint32_t thread, uint32_t number)
     case KERNELSUN_WENT: break;
     case KERNELSUN_FINISHED: wake_all(); break;
     case KERNELSUN_BLOCKED:
-        if (waits_for_another(thread)) {
+        if (waits_for_others(thread)) {
             sleep_until_news();
         } else {
             stop_at(thread, "step", "BLOCKED, though no other thread has the lock");
@@ -393,10 +394,12 @@ static int at_rest(void)
         rest = rest && kernelsun_operation(area, thread) == 0;
     }
     for (uint32_t n = 0; n < LOGICAL; n++) {
-        rest = rest && kernelsun_lock(area, n) == KERNELSUN_NONE;
+        rest = rest && kernelsun_lock_writer(area, n) == KERNELSUN_NONE &&
+               kernelsun_lock_readers(area, n) == 0;
     }
     for (uint32_t p = 0; p < PHYSICAL; p++) {
-        rest = rest && kernelsun_owner(area, p) == KERNELSUN_NONE;
+        rest = rest && kernelsun_block_writer(area, p) == KERNELSUN_NONE &&
+               kernelsun_block_readers(area, p) == 0;
     }
     return rest;
 }

@@ -46,9 +46,11 @@
  * begin() opens an operation on an idle thread and does nothing else. Each
  * step() then does one short line of it. Step until KERNELSUN_FINISHED comes
  * back; the value beside it is the operation's answer, and the thread is idle
- * again. KERNELSUN_BLOCKED means that the line waits for a lock that isn't free,
- * in an area of format() since another open operation has it: step the other
- * threads and try again.
+ * again. KERNELSUN_BLOCKED means that the line waits for a lock, in an area of
+ * format() since another open operation has it: step the other threads and try
+ * again. Any number of reads may have the lock of a logical block at one time, so
+ * a read waits for no other read; a write, an unmap or a levelling that moves the
+ * block has it alone, and waits until the last read has released it.
  *
  * In an area that came from format() and was changed by these functions alone,
  * some thread with open work can step while any operation is open: that is
@@ -145,9 +147,9 @@ extern "C" {
  * call answers otherwise; the second where something is added. An area does not
  * hold it: who saves areas saves the first number with them.
  */
-#define KERNELSUN_VERSION_MAJOR 2
-#define KERNELSUN_VERSION_MINOR 1
-#define KERNELSUN_VERSION "2.1"
+#define KERNELSUN_VERSION_MAJOR 3
+#define KERNELSUN_VERSION_MINOR 0
+#define KERNELSUN_VERSION "3.0"
 
 /* A result that is dropped may have been a refusal. */
 #if defined(__GNUC__)

@@ -29,7 +29,8 @@
 extern "C" {
 #endif
 
-/* No thread, no block: what a free lock, owner or header and an unmapped number give. */
+/* No thread, no block: what a lock or an owner without holder or writer, a free header and an
+   unmapped number give. */
 #define KERNELSUN_NONE 0xffffffffu
 
 /* The header lock H, where kernelsun_next_lock() names a lock. No logical number is that large. */
@@ -39,14 +40,19 @@ extern "C" {
 #define KERNELSUN_WEAR_MOST 0xffffffffu
 
 /*
- * ---- Where the words stand: for those who make areas by hand; readers go on below ----
+ * ---- Where the words stand: for those who make areas by hand; who only looks goes on below ----
  *
  * Words of 32 bits, the low byte first. The words of the first list come first,
  * then a record for each thread, a word of the map for each logical block, a
  * lock for each of them, and a record for each physical block. Where a word
- * names something (a thread in a lock or owner, a logical block in a header or
- * register h, a physical block in the map), it is one more than the number that
- * it names, and 0 where it names nothing.
+ * names something (a thread in the header lock and the headers' owner, a logical
+ * block in a header or register h, a physical block in the map), it is one more
+ * than the number that it names, and 0 where it names nothing.
+ *
+ * The lock of a logical block and the owner of a physical one name one writer or
+ * any number of readers, never both. In the low 16 bits, bit t is thread t as a
+ * reader; above them stands one more than the writer. So a word of readers is their
+ * set, a writer's is kernelsun_writing(thread), and nobody's is 0.
  */
 
 /* The words at the area's start, by their index. */
@@ -80,6 +86,10 @@ enum {
     KERNELSUN_BLOCK_OWNER,
     KERNELSUN_BLOCK_WORDS
 };
+
+/* A set of readers, a bit for each of 16 threads, is below this; one more than the writer is taken
+   this many times. */
+#define KERNELSUN_READER_SETS 65536u
 
 typedef struct {
     uint32_t t, n, p, d;
@@ -173,10 +183,22 @@ static inline int kernelsun_viewable(const uint8_t *area, size_t len)
 
 /* ---- Words with a meaning ---- */
 
-/* A lock, owner, header or map word is 0 for nobody, else a number plus one. */
+/* A header or map word, H and the headers' owner are 0 for nobody, else a number plus one. */
 static inline uint32_t kernelsun_named(uint32_t word)
 {
     return word == 0 ? KERNELSUN_NONE : word - 1;
+}
+
+/* A thread's bit in a set of threads, bit t for thread t; 0 for KERNELSUN_NONE, and from 16 on. */
+static inline uint32_t kernelsun_bit(uint32_t thread)
+{
+    return thread < KERNELSUN_THREADS_MOST ? (uint32_t)1 << thread : 0;
+}
+
+/* The lock of a logical block, or the owner of a physical one, while this thread is the writer. */
+static inline uint32_t kernelsun_writing(uint32_t thread)
+{
+    return KERNELSUN_READER_SETS * (thread + 1);
 }
 
 /* A word of a thread's record, of the map, of the locks, of a block; 0 past the last of them. */
@@ -207,7 +229,15 @@ static inline uint32_t kernelsun_of_block(const uint8_t *area, uint32_t p, size_
                : 0;
 }
 
-/* ---- Locks and owners: a thread, or KERNELSUN_NONE ---- */
+/*
+ * ---- Locks and owners ----
+ *
+ * H and the headers are one thread's, or nobody's. The lock of a logical block, and
+ * a physical block, are had by one thread to write (in a write, an unmap and a
+ * levelling) or by any number to read (in reads). The writer is a thread, or
+ * KERNELSUN_NONE where there is none; the readers are a set, in which thread t is
+ * kernelsun_bit(t), and 0 where there are none.
+ */
 
 /* Who holds the header lock H. */
 static inline uint32_t kernelsun_lock_h(const uint8_t *area)
@@ -221,16 +251,29 @@ static inline uint32_t kernelsun_headers_owner(const uint8_t *area)
     return kernelsun_named(kernelsun_word(area, KERNELSUN_AT_OWNER));
 }
 
-/* Who holds the lock of logical block n. */
-static inline uint32_t kernelsun_lock(const uint8_t *area, uint32_t n)
+/* Who holds the lock of logical block n to write. */
+static inline uint32_t kernelsun_lock_writer(const uint8_t *area, uint32_t n)
 {
-    return kernelsun_named(kernelsun_of_lock(area, n));
+    return kernelsun_named(kernelsun_of_lock(area, n) / KERNELSUN_READER_SETS);
 }
 
-/* Who owns physical block p. */
-static inline uint32_t kernelsun_owner(const uint8_t *area, uint32_t p)
+/* Who hold the lock of logical block n to read, as a set. */
+static inline uint32_t kernelsun_lock_readers(const uint8_t *area, uint32_t n)
 {
-    return kernelsun_named(kernelsun_of_block(area, p, KERNELSUN_BLOCK_OWNER));
+    return kernelsun_of_lock(area, n) % KERNELSUN_READER_SETS;
+}
+
+/* Who owns physical block p to write. */
+static inline uint32_t kernelsun_block_writer(const uint8_t *area, uint32_t p)
+{
+    return kernelsun_named(kernelsun_of_block(area, p, KERNELSUN_BLOCK_OWNER) /
+                           KERNELSUN_READER_SETS);
+}
+
+/* Who own physical block p to read, as a set. */
+static inline uint32_t kernelsun_block_readers(const uint8_t *area, uint32_t p)
+{
+    return kernelsun_of_block(area, p, KERNELSUN_BLOCK_OWNER) % KERNELSUN_READER_SETS;
 }
 
 /* ---- Blocks ---- */
@@ -326,10 +369,23 @@ static inline uint32_t kernelsun_next_lock(const uint8_t *area, uint32_t thread)
     }
 }
 
-/* Who holds a lock that kernelsun_next_lock() named; KERNELSUN_NONE where it is free. */
-static inline uint32_t kernelsun_lock_holder(const uint8_t *area, uint32_t lock)
+/*
+ * For whom a thread's next line waits, as a set of threads: all that have the lock
+ * which it takes, but a reader waits for no other reader. Where the set is 0, a step
+ * would not give KERNELSUN_BLOCKED. A thread that has the lock itself is in the set
+ * too; in an area of format() that doesn't happen.
+ */
+static inline uint32_t kernelsun_waits_for(const uint8_t *area, uint32_t thread)
 {
-    return lock == KERNELSUN_LOCK_H ? kernelsun_lock_h(area) : kernelsun_lock(area, lock);
+    uint32_t lock = kernelsun_next_lock(area, thread), readers;
+    if (lock == KERNELSUN_LOCK_H) {
+        return kernelsun_bit(kernelsun_lock_h(area));
+    }
+    readers = kernelsun_lock_readers(area, lock);
+    if (kernelsun_operation(area, thread) == KERNELSUN_READ) {
+        readers &= kernelsun_bit(thread);
+    }
+    return kernelsun_bit(kernelsun_lock_writer(area, lock)) | readers;
 }
 
 /* ---- Names ---- */

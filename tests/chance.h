@@ -52,8 +52,8 @@ static inline uint32_t chance_hostile(chance *c)
     static const uint32_t words[] = {
         0,    1,    2,     3,     4,     5,           6,           15,          16,
         17,   18,   19,    255,   256,   257,         511,         512,         513,
-        999,  1000, 1001,  65535, 65536, 0x7fffffffu, 0x80000000u, 0x40000001u, 0xfffffffeu,
-        0xffffffffu,
+        999,  1000, 1001,  32768, 65535, 65536,       65537,       131072,      1048576,
+        1114112, 0x7fffffffu, 0x80000000u, 0x40000001u, 0xffff0000u, 0xfffffffeu, 0xffffffffu,
     };
     return chance_one_in(c, 8) ? chance_word(c)
                                : words[chance_below(c, sizeof words / sizeof words[0])];

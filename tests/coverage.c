@@ -10,11 +10,23 @@ enum { NUMBERS = KERNELSUN_LIMITS + 1 };
 static unsigned long by_call[CALLS][NUMBERS];
 static unsigned long by_line[KERNELSUN_LEVEL + 1][LINES_MOST + 1][NUMBERS];
 
+/* Who is at a block lock or a block, seen from the thread that steps. */
+enum {
+    NOBODY, WRITES_IT, READS_IT_ALONE, READS_IT_TOO, OTHERS_READ, ANOTHER_WRITES, HOLDERS
+};
+
+static const char *const holders_names[HOLDERS] = {
+    "nobody", "itself as the writer", "itself as the only reader", "itself and other readers",
+    "other readers", "another writer",
+};
+
+static unsigned long by_holders[KERNELSUN_LEVEL + 1][LINES_MOST + 1][HOLDERS];
+
 enum {
     W3_MAPPED, W3_STAYS, W3_UNMAPPED, W5_BEYOND_FIRST, R2_MAPPED, R2_UNMAPPED, R6_NOT_0, U3_MAPPED,
     U3_UNMAPPED, U7_STAYS, L5_FREE, L5_USED, L13_STAYS, L18_MOVED, L18_NOTHING, L3_MOVES,
     L3_NOTHING_MAPPED, L3_TOO_NEAR, L3_JUST_ENOUGH, L3_TIE_OF_FROM, L3_TIE_OF_TO, L3_BEYOND,
-    BY_ITSELF, BY_ANOTHER, NO_FREE_BLOCK, ACTS
+    H_BY_ITSELF, H_BY_ANOTHER, NO_FREE_BLOCK, READER_PAST_T, WRITER_PAST_T, READERS_AND_WRITER, ACTS
 };
 
 static const char *const act_names[ACTS] = {
@@ -22,8 +34,9 @@ static const char *const act_names[ACTS] = {
     "R2 unmapped", "R6 with a value that isn't 0", "U3 mapped", "U3 unmapped",
     "U7 wear stays at most", "L5 free", "L5 not free", "L13 wear stays at most", "L18 moved",
     "L18 nothing moved", "L3 moves", "L3 nothing mapped", "L3 too near", "L3 just far enough",
-    "L3 tie of from", "L3 tie of to", "L3 sum beyond 32 bits", "blocked by itself",
-    "blocked by another", "FAULT for want of a free block",
+    "L3 tie of from", "L3 tie of to", "L3 sum beyond 32 bits", "blocked for H by itself",
+    "blocked for H by another", "FAULT for want of a free block", "SHAPE for a reader not below T",
+    "SHAPE for a writer not below T", "SHAPE for readers beside a writer",
 };
 
 static unsigned long acts[ACTS];
@@ -137,11 +150,69 @@ static void count_choice(const met *m)
     }
 }
 
+/* For H. Who is waited for at a block lock, count_holders() counts. */
 static void count_blocked(const met *m)
 {
     const uint8_t *before = m->before->bytes;
-    uint32_t holder = kernelsun_lock_holder(before, kernelsun_next_lock(before, m->thread));
-    acts[holder == m->thread ? BY_ITSELF : BY_ANOTHER]++;
+    if (kernelsun_next_lock(before, m->thread) == KERNELSUN_LOCK_H) {
+        acts[kernelsun_lock_h(before) == m->thread ? H_BY_ITSELF : H_BY_ANOTHER]++;
+    }
+}
+
+/* Of each line, whether it looks at n's lock, at the owner of p or of q, or at none of them. */
+static char looks_at(uint32_t op, uint32_t line)
+{
+    static const char *const kinds[KERNELSUN_LEVEL + 1] = {"", "-n---pppp---pppn", "n-pppn",
+                                                           "-n--p-pp-n-", "-----nppqqq-pqpn--"};
+    return kinds[op][line - 1];
+}
+
+static int kind_of_holders(uint32_t word, uint32_t thread)
+{
+    uint32_t readers = word % KERNELSUN_READER_SETS, itself = kernelsun_bit(thread);
+    if (word >= KERNELSUN_READER_SETS) {
+        return word == kernelsun_writing(thread) ? WRITES_IT : ANOTHER_WRITES;
+    }
+    if ((readers & itself) != 0) {
+        return readers == itself ? READS_IT_ALONE : READS_IT_TOO;
+    }
+    return readers == 0 ? NOBODY : OTHERS_READ;
+}
+
+static void count_holders(const met *m)
+{
+    const uint8_t *before = m->before->bytes;
+    uint32_t p = kernelsun_register_p(before, m->thread), word;
+    switch (looks_at(m->op, m->line)) {
+    case 'n': word = kernelsun_of_lock(before, kernelsun_register_n(before, m->thread)); break;
+    case 'q': p = kernelsun_register_q(before, m->thread); /* fall through */
+    case 'p': word = kernelsun_of_block(before, p, KERNELSUN_BLOCK_OWNER); break;
+    default: return;
+    }
+    by_holders[m->op][m->line][kind_of_holders(word, m->thread)]++;
+}
+
+static void count_malformed_word(uint32_t word, uint32_t t)
+{
+    uint32_t readers = word % KERNELSUN_READER_SETS, writer = word / KERNELSUN_READER_SETS;
+    acts[READER_PAST_T] += writer == 0 && readers >> t != 0;
+    acts[WRITER_PAST_T] += readers == 0 && writer > t;
+    acts[READERS_AND_WRITER] += readers != 0 && writer != 0;
+}
+
+/* Of an area that was refused, though its sizes are right. */
+static void count_malformed(const area *a)
+{
+    if (!kernelsun_viewable(a->bytes, a->len)) {
+        return;
+    }
+    kernelsun_sizes s = kernelsun_sizes_of(a->bytes);
+    for (uint32_t n = 0; n < s.n; n++) {
+        count_malformed_word(kernelsun_of_lock(a->bytes, n), s.t);
+    }
+    for (uint32_t p = 0; p < s.p; p++) {
+        count_malformed_word(kernelsun_of_block(a->bytes, p, KERNELSUN_BLOCK_OWNER), s.t);
+    }
 }
 
 /* W5 and L3 with the headers owned can only fail for want of a free block. */
@@ -183,6 +254,9 @@ void coverage_count(const call *c, uint64_t r, const area *before, const area *a
         return;
     }
     by_call[c->which][number]++;
+    if (c->which != CALL_FORMAT && number == KERNELSUN_SHAPE) {
+        count_malformed(before);
+    }
     if (c->which != CALL_STEP || !is_of_line(number)) {
         return;
     }
@@ -197,6 +271,7 @@ void coverage_count(const call *c, uint64_t r, const area *before, const area *a
     m.op = kernelsun_operation(before->bytes, m.thread);
     m.line = kernelsun_line(before->bytes, m.thread);
     by_line[m.op][m.line][number]++;
+    count_holders(&m);
     count_acts(&m);
 }
 
@@ -255,6 +330,35 @@ static int report_operation(uint32_t op)
     return whole;
 }
 
+/* Each line that looks at such a word has met each kind there. */
+static int report_holders(void)
+{
+    unsigned lines = 0, rarest_kind = 0;
+    uint32_t rarest_op = KERNELSUN_READ, rarest_line = 1;
+    int whole = 1;
+    for (uint32_t op = KERNELSUN_WRITE; op <= KERNELSUN_LEVEL; op++) {
+        for (uint32_t line = 1; line <= kernelsun_last_line(op); line++) {
+            lines += looks_at(op, line) != '-';
+            for (unsigned kind = 0; looks_at(op, line) != '-' && kind < HOLDERS; kind++) {
+                unsigned long times = by_holders[op][line][kind];
+                if (times < by_holders[rarest_op][rarest_line][rarest_kind]) {
+                    rarest_op = op, rarest_line = line, rarest_kind = kind;
+                }
+                if (times == 0) {
+                    printf("  NEVER MET: %s with %s\n", kernelsun_label(op, line),
+                           holders_names[kind]);
+                    whole = 0;
+                }
+            }
+        }
+    }
+    printf("  %u lines at a block lock or owner with each of %u kinds of holders, rarest: "
+           "%s with %s, %lu times\n",
+           lines, (unsigned)HOLDERS, kernelsun_label(rarest_op, rarest_line),
+           holders_names[rarest_kind], by_holders[rarest_op][rarest_line][rarest_kind]);
+    return whole;
+}
+
 static int report_call(int which, const char *name, const uint32_t *numbers, size_t count)
 {
     int whole = 1;
@@ -288,6 +392,7 @@ int coverage_is_whole(void)
     for (uint32_t op = KERNELSUN_WRITE; op <= KERNELSUN_LEVEL; op++) {
         whole &= report_operation(op);
     }
+    whole &= report_holders();
     whole &= all_met("acts", act_names, acts, ACTS);
     return whole;
 }

@@ -1,7 +1,8 @@
 /*
  * What a fuzz run has met: each number of each call, each line with each
- * outcome that it can have, and the acts inside lines that have more than one
- * way to go.
+ * outcome that it can have, each line that looks at a block lock or at a block's
+ * owner with each kind of holders there, and the acts inside lines that have more
+ * than one way to go.
  */
 #ifndef KERNELSUN_TESTS_COVERAGE_H
 #define KERNELSUN_TESTS_COVERAGE_H

@@ -1,15 +1,13 @@
 /*
  * The door by fixed expectations: limits and fresh areas, shape and length,
  * each refusal and their order, the largest word in each argument, the cases
- * of document 01's "Checked by hand", and interleavings that the document
- * names. The single lines are in door_lines.c.
+ * of document 01's "Checked by hand", interleavings that the document names, and
+ * readers beside readers, from document 02. The single lines are in door_lines.c.
  *
- * Expectations are written from the document. Nothing here is computed by the
+ * Expectations are written from the documents. Nothing here is computed by the
  * reference.
  */
 #include "expect.h"
-
-#include <string.h>
 
 #define COUNT(array) (sizeof(array) / sizeof((array)[0]))
 #define MOST 0xffffffffu
@@ -154,13 +152,67 @@ static void check_word_limits(void)
     expect_word_limit(kernelsun_at_thread(1, KERNELSUN_THREAD_H), s.n);
     for (uint32_t n = 0; n < s.n; n++) {
         expect_word_limit(kernelsun_at_map(&s, n), s.p);
-        expect_word_limit(kernelsun_at_lock(&s, n), s.t);
     }
     for (uint32_t p = 0; p < s.p; p++) {
         expect_word_limit(kernelsun_at_block(&s, p, KERNELSUN_BLOCK_HEADER), s.n);
         expect_word_limit(kernelsun_at_block(&s, p, KERNELSUN_BLOCK_CONTENT), MOST);
         expect_word_limit(kernelsun_at_block(&s, p, KERNELSUN_BLOCK_WEAR), MOST);
-        expect_word_limit(kernelsun_at_block(&s, p, KERNELSUN_BLOCK_OWNER), s.t);
+    }
+}
+
+/* A word of a block lock or of a block's owner, and whether it is well formed with t threads. */
+typedef struct {
+    uint32_t t, word;
+    int good;
+} holders;
+
+static const holders some_holders[] = {
+    /* Nobody, all readers that there are, one more; the last writer, one more. */
+    {1, 0, 1}, {1, 1, 1}, {1, 2, 0}, {1, 65536, 1}, {1, 131072, 0},
+    {3, 0, 1}, {3, 7, 1}, {3, 8, 0}, {3, 196608, 1}, {3, 262144, 0},
+    {16, 0, 1}, {16, 65535, 1}, {16, 1048576, 1}, {16, 1114112, 0},
+    /* Some readers; one that there isn't, alone and beside others. */
+    {1, 3, 0}, {1, 32768, 0}, {1, 65535, 0}, {3, 1, 1}, {3, 4, 1}, {3, 6, 1}, {3, 9, 0}, {3, 15, 0},
+    {3, 16, 0}, {3, 32768, 0}, {3, 65535, 0}, {15, 32767, 1}, {15, 16384, 1}, {15, 32768, 0},
+    {15, 32769, 0}, {16, 1, 1}, {16, 32768, 1}, {16, 32767, 1},
+    /* Other writers, and writers that there aren't. */
+    {3, 65536, 1}, {3, 131072, 1}, {15, 983040, 1}, {15, 1048576, 0}, {16, 65536, 1},
+    {16, 983040, 1}, {16, 2097152, 0}, {16, 0x80000000u, 0}, {3, 0x80000000u, 0},
+    {1, 0xffff0000u, 0}, {16, 0xffff0000u, 0},
+    /* Readers beside a writer. */
+    {1, 65537, 0}, {1, 131071, 0}, {3, 65537, 0}, {3, 65543, 0}, {3, 131073, 0}, {3, 131074, 0},
+    {3, 196615, 0}, {16, 65537, 0}, {16, 65538, 0}, {16, 98304, 0}, {16, 131071, 0},
+    {16, 1048577, 0}, {16, 1081344, 0}, {16, 1114111, 0}, {1, MOST, 0}, {3, MOST, 0}, {16, MOST, 0},
+};
+
+/* What each call makes of it. A begin that is well formed so far is refused for its operation. */
+static void expect_holders(size_t word, const holders *h)
+{
+    static area a, fresh;
+    tally t = {0, 0, 0, 0, 0, 0, 0};
+    make_fresh(&a, h->t, 2, 4, 2);
+    fresh = a;
+    put_word(a.bytes, word, h->word);
+    expect_refusal(&a, call_step(0), h->good ? KERNELSUN_IDLE : KERNELSUN_SHAPE);
+    expect_refusal(&a, call_step(h->t), h->good ? KERNELSUN_THREAD : KERNELSUN_SHAPE);
+    expect_refusal(&a, call_begin(0, 0, 0, 0), h->good ? KERNELSUN_OPERATION : KERNELSUN_SHAPE);
+    expect_equal("add_area", kernelsun_number(add_through_door(&t, &a)), KERNELSUN_WENT);
+    expect_equal("skipped", t.skipped, !h->good);
+    expect_equal("blocks", t.blocks, h->good ? 4 : 0);
+    expect_area(&a, call_format(h->t, 2, 4, 2), KERNELSUN_WENT, 0, &fresh);
+}
+
+static void check_holders(void)
+{
+    about("readers, a writer or nobody in block locks and owners, each below T");
+    for (size_t i = 0; i < COUNT(some_holders); i++) {
+        kernelsun_sizes s = {some_holders[i].t, 2, 4, 2};
+        for (uint32_t n = 0; n < s.n; n++) {
+            expect_holders(kernelsun_at_lock(&s, n), &some_holders[i]);
+        }
+        for (uint32_t p = 0; p < s.p; p++) {
+            expect_holders(kernelsun_at_block(&s, p, KERNELSUN_BLOCK_OWNER), &some_holders[i]);
+        }
     }
 }
 
@@ -355,9 +407,9 @@ static void check_step_counts(void)
 }
 
 /* The levelling case of "Checked by hand", up to the first level. */
-static void make_levelling_case(area *a, uint32_t d)
+static void make_levelling_case(area *a, uint32_t t, uint32_t d)
 {
-    make_fresh(a, 1, 2, 3, d);
+    make_fresh(a, t, 2, 3, d);
     expect_whole(a, KERNELSUN_WRITE, 0, 7, 16, 0);
     expect_whole(a, KERNELSUN_WRITE, 1, 9, 16, 0);
     expect_whole(a, KERNELSUN_UNMAP, 0, 0, 11, 0);
@@ -369,7 +421,7 @@ static void check_levelling_case(void)
 {
     static area a;
     about("the levelling case with D=2");
-    make_levelling_case(&a, 2);
+    make_levelling_case(&a, 1, 2);
     static const uint32_t before[29] = {1, 2, 3, 2, [14] = 2, [18] = 8, 2, 0, 2, 9};
     expect_words(&a, before, COUNT(before));
     expect_whole(&a, KERNELSUN_LEVEL, 0, 0, 18, 1);
@@ -381,7 +433,7 @@ static void check_levelling_case(void)
     expect_whole(&a, KERNELSUN_LEVEL, 999, 0, 7, 0);
     expect_words(&a, after, COUNT(after));
     about("the levelling case with D=3 has nothing to move");
-    make_levelling_case(&a, 3);
+    make_levelling_case(&a, 1, 3);
     expect_whole(&a, KERNELSUN_LEVEL, 0, 0, 7, 0);
 }
 
@@ -480,15 +532,15 @@ static void check_choices(void)
 
 /* ---- interleavings ---- */
 
-static void check_second_reader_waits(void)
+static void check_second_reader_goes(void)
 {
     static area a;
-    about("the document's nine-line example");
+    about("the document's nine-line example, where the second reader goes too");
     make_fresh(&a, 2, 1, 2, 1);
     expect_begins(&a, 0, KERNELSUN_READ, 0, 9);
     expect_begins(&a, 1, KERNELSUN_READ, 0, 0);
     expect_steps(&a, 0, 1, KERNELSUN_WENT);
-    expect_refusal(&a, call_step(1), KERNELSUN_BLOCKED);
+    expect_steps(&a, 1, 1, KERNELSUN_WENT);
     expect_steps(&a, 0, 1, KERNELSUN_WENT);
     expect_steps(&a, 0, 1, KERNELSUN_FINISHED);
     expect_steps(&a, 1, 1, KERNELSUN_WENT);
@@ -535,31 +587,324 @@ static void check_read_before_unmap_finishes(void)
     expect_steps(&a, 1, 1, KERNELSUN_FINISHED);
 }
 
-/* A leveller at L6 waits for the reader of the number it wants to move. */
-static void check_leveller_waits_for_reader(void)
+/* ---- readers beside readers ---- */
+
+static uint32_t lock_word(const area *a, uint32_t n)
+{
+    return kernelsun_of_lock(a->bytes, n);
+}
+
+static uint32_t owner_word(const area *a, uint32_t p)
+{
+    return kernelsun_of_block(a->bytes, p, KERNELSUN_BLOCK_OWNER);
+}
+
+/* A step that goes on: to that line, with one word more that changes. */
+static void expect_goes(area *a, uint32_t thread, uint32_t next, size_t word, uint32_t value)
+{
+    const edit changes[] = {{kernelsun_at_thread(thread, KERNELSUN_THREAD_LINE), next},
+                            {word, value}};
+    expect_changes(a, call_step(thread), KERNELSUN_WENT, 0, changes, COUNT(changes));
+}
+
+/* The last step of a read, after which these are left at the number's lock. */
+static void expect_read(area *a, uint32_t thread, uint32_t value, size_t lock, uint32_t left)
+{
+    edit changes[KERNELSUN_THREAD_WORDS + 1] = {{lock, left}};
+    for (size_t field = 0; field < KERNELSUN_THREAD_WORDS; field++) {
+        changes[field + 1].word = kernelsun_at_thread(thread, field);
+    }
+    expect_changes(a, call_step(thread), KERNELSUN_FINISHED, value, changes, COUNT(changes));
+}
+
+/* Threads 0 and 2 read number 1, which is on block 0 with content 77. */
+static void check_two_readers(void)
 {
     static area a;
-    about("a leveller waits at L6 for a reader, and a reader for the leveller");
-    make_levelling_case(&a, 2);
-    static area two;
-    make_fresh(&two, 2, 2, 3, 2);
-    memcpy(two.bytes + BYTES_IN_WORD * kernelsun_at_thread(2, 0),
-           a.bytes + BYTES_IN_WORD * kernelsun_at_thread(1, 0),
-           a.len - BYTES_IN_WORD * kernelsun_at_thread(1, 0));
-    expect_begins(&two, 0, KERNELSUN_READ, 1, 0);
-    expect_begins(&two, 1, KERNELSUN_LEVEL, 0, 0);
-    expect_steps(&two, 0, 1, KERNELSUN_WENT);
-    expect_steps(&two, 1, 5, KERNELSUN_WENT);
-    expect_refusal(&two, call_step(1), KERNELSUN_BLOCKED);
-    expect_steps(&two, 0, 4, KERNELSUN_WENT);
-    call last = call_step(0);
-    expect_equal("value read", kernelsun_value(through_door(&last, &two)), 9);
-    expect_steps(&two, 1, 1, KERNELSUN_WENT);
-    expect_begins(&two, 0, KERNELSUN_READ, 1, 0);
-    expect_refusal(&two, call_step(0), KERNELSUN_BLOCKED);
-    expect_steps(&two, 1, 10, KERNELSUN_WENT);
-    expect_steps(&two, 0, 5, KERNELSUN_WENT);
-    expect_equal("value read after the move", kernelsun_value(through_door(&last, &two)), 9);
+    kernelsun_sizes s = {3, 2, 3, 1};
+    size_t lock = kernelsun_at_lock(&s, 1);
+    size_t owner = kernelsun_at_block(&s, 0, KERNELSUN_BLOCK_OWNER);
+    about("two readers of one number, both past R3");
+    make_fresh(&a, s.t, s.n, s.p, s.d);
+    expect_whole(&a, KERNELSUN_WRITE, 1, 77, 16, 0);
+    expect_begins(&a, 0, KERNELSUN_READ, 1, 0);
+    expect_begins(&a, 2, KERNELSUN_READ, 1, 0);
+    expect_goes(&a, 0, 2, lock, 1);
+    expect_goes(&a, 2, 2, lock, 5);
+    expect_goes(&a, 2, 3, kernelsun_at_thread(2, KERNELSUN_THREAD_P), 0);
+    expect_goes(&a, 2, 4, owner, 4);
+    expect_goes(&a, 0, 3, kernelsun_at_thread(0, KERNELSUN_THREAD_P), 0);
+    expect_goes(&a, 0, 4, owner, 5);
+    expect_goes(&a, 0, 5, kernelsun_at_thread(0, KERNELSUN_THREAD_C), 77);
+    expect_goes(&a, 2, 5, kernelsun_at_thread(2, KERNELSUN_THREAD_C), 77);
+    expect_goes(&a, 2, 6, owner, 1);
+    expect_goes(&a, 0, 6, owner, 0);
+    expect_read(&a, 0, 77, lock, 4);
+    expect_read(&a, 2, 77, lock, 0);
+}
+
+/* Each thread once, in an order that depends on an odd number. */
+static uint32_t mixed(uint32_t turn, uint32_t odd)
+{
+    return (odd * turn + 3) % 16;
+}
+
+/* Number 2 is on block 0 with content 440. Each step is expected with each byte after it. */
+static void check_sixteen_readers(void)
+{
+    static area a;
+    kernelsun_sizes s = {16, 3, 5, 1};
+    size_t lock = kernelsun_at_lock(&s, 2);
+    size_t owner = kernelsun_at_block(&s, 0, KERNELSUN_BLOCK_OWNER);
+    uint32_t at_lock = 0, at_block = 0;
+    about("sixteen readers of one number at once, in mixed orders");
+    make_fresh(&a, s.t, s.n, s.p, s.d);
+    expect_whole(&a, KERNELSUN_WRITE, 2, 440, 16, 0);
+    for (uint32_t turn = 0; turn < 16; turn++) {
+        expect_begins(&a, turn, KERNELSUN_READ, 2, 0);
+    }
+    for (uint32_t turn = 0; turn < 16; turn++) {
+        uint32_t thread = mixed(turn, 7);
+        expect_goes(&a, thread, 2, lock, at_lock += 1u << thread);
+        expect_goes(&a, thread, 3, kernelsun_at_thread(thread, KERNELSUN_THREAD_P), 0);
+    }
+    for (uint32_t turn = 0; turn < 16; turn++) {
+        uint32_t thread = mixed(turn, 5);
+        expect_goes(&a, thread, 4, owner, at_block += 1u << thread);
+    }
+    expect_equal("readers at the lock", lock_word(&a, 2), 65535);
+    expect_equal("readers of the block", owner_word(&a, 0), 65535);
+    for (uint32_t turn = 0; turn < 16; turn++) {
+        uint32_t thread = mixed(turn, 11);
+        expect_goes(&a, thread, 5, kernelsun_at_thread(thread, KERNELSUN_THREAD_C), 440);
+        expect_goes(&a, thread, 6, owner, at_block -= 1u << thread);
+        if (turn % 2 == 0) {
+            expect_read(&a, thread, 440, lock, at_lock -= 1u << thread);
+        }
+    }
+    expect_equal("readers of the block", owner_word(&a, 0), 0);
+    for (uint32_t turn = 16; turn-- > 0;) {
+        if (turn % 2 == 1) {
+            uint32_t thread = mixed(turn, 11);
+            expect_read(&a, thread, 440, lock, at_lock -= 1u << thread);
+        }
+    }
+    expect_equal("readers at the lock", lock_word(&a, 2), 0);
+}
+
+static void expect_finishes(area *a, uint32_t thread, uint32_t value)
+{
+    call c = call_step(thread);
+    uint64_t given = through_door(&c, a);
+    expect_equal("number at the end", kernelsun_number(given), KERNELSUN_FINISHED);
+    expect_equal("value at the end", kernelsun_value(given), value);
+}
+
+/*
+ * Threads 0 and 1 read number n from R1 up to R6, line by line. Before each line and
+ * after the last thread 2 tries the line that takes the same lock to write. Then
+ * the two finish, the one before the other.
+ */
+static void expect_waits_for_both(area *a, uint32_t n, uint32_t value, uint32_t first)
+{
+    uint32_t second = 1 - first;
+    for (uint32_t line = 2; line <= 6; line++) {
+        expect_refusal(a, call_step(2), KERNELSUN_BLOCKED);
+        expect_steps(a, first, line < 6, KERNELSUN_WENT);
+        expect_refusal(a, call_step(2), KERNELSUN_BLOCKED);
+        expect_steps(a, second, line < 6, KERNELSUN_WENT);
+    }
+    expect_equal("both", lock_word(a, n), 3);
+    expect_finishes(a, first, value);
+    expect_equal("the second", lock_word(a, n), 1u << second);
+    expect_refusal(a, call_step(2), KERNELSUN_BLOCKED);
+    expect_finishes(a, second, value);
+    expect_equal("nobody", lock_word(a, n), 0);
+    expect_steps(a, 2, 1, KERNELSUN_WENT);
+    expect_equal("the writer", lock_word(a, n), 196608);
+}
+
+/* Threads 0 and 1 have done R1 of number n. */
+static void make_two_read(area *a, uint32_t n)
+{
+    for (uint32_t thread = 0; thread < 2; thread++) {
+        expect_begins(a, thread, KERNELSUN_READ, n, 0);
+        expect_steps(a, thread, 1, KERNELSUN_WENT);
+    }
+}
+
+/* Number 0 holds 5. A third read waits for the writer, until that has released the lock. */
+static void check_writer_waits(uint32_t op, uint32_t first)
+{
+    static area a;
+    int unmaps = op == KERNELSUN_UNMAP;
+    make_fresh(&a, 3, 1, 2, 1);
+    expect_whole(&a, KERNELSUN_WRITE, 0, 5, 16, 0);
+    make_two_read(&a, 0);
+    expect_begins(&a, 2, op, 0, 9);
+    expect_steps(&a, 2, 1, KERNELSUN_WENT);
+    expect_waits_for_both(&a, 0, 5, first);
+    expect_begins(&a, first, KERNELSUN_READ, 0, 0);
+    for (uint32_t line = 0; line < (unmaps ? 7 : 5); line++) {
+        expect_refusal(&a, call_step(first), KERNELSUN_BLOCKED);
+        expect_steps(&a, 2, 1, KERNELSUN_WENT);
+    }
+    expect_refusal(&a, call_step(first), KERNELSUN_BLOCKED);
+    expect_steps(&a, 2, 1, unmaps ? KERNELSUN_WENT : KERNELSUN_FINISHED);
+    expect_steps(&a, first, unmaps ? 2 : 5, KERNELSUN_WENT);
+    expect_finishes(&a, first, unmaps ? 0 : 9);
+}
+
+static void check_writers_wait(void)
+{
+    about("a writer waits until the last of two readers has left");
+    for (uint32_t first = 0; first < 2; first++) {
+        check_writer_waits(KERNELSUN_WRITE, first);
+        check_writer_waits(KERNELSUN_UNMAP, first);
+    }
+}
+
+/* A leveller at L6 waits for the readers of the number that it wants to move. */
+static void check_leveller_waits(void)
+{
+    static area a;
+    about("a leveller waits at L6 for readers, and a reader for the leveller");
+    for (uint32_t first = 0; first < 2; first++) {
+        make_levelling_case(&a, 3, 2);
+        make_two_read(&a, 1);
+        expect_begins(&a, 2, KERNELSUN_LEVEL, 0, 0);
+        expect_steps(&a, 2, 5, KERNELSUN_WENT);
+        expect_waits_for_both(&a, 1, 9, first);
+        expect_begins(&a, 0, KERNELSUN_READ, 1, 0);
+        expect_refusal(&a, call_step(0), KERNELSUN_BLOCKED);
+        expect_steps(&a, 2, 10, KERNELSUN_WENT);
+        expect_steps(&a, 0, 5, KERNELSUN_WENT);
+        expect_finishes(&a, 0, 9);
+        expect_steps(&a, 2, 1, KERNELSUN_WENT);
+        expect_finishes(&a, 2, 1);
+    }
+}
+
+/* ---- who is at a lock or a block, made by hand ---- */
+
+enum { BY_ITSELF, BY_ANOTHER, READ_BY_ITSELF, READ_BY_ANOTHER, READ_BY_BOTH, READ_BY_ALL };
+
+typedef struct {
+    const char *what;
+    uint32_t op, line;
+    int held;
+    uint32_t number;
+} held_row;
+
+#define WENT KERNELSUN_WENT
+#define BLOCKED KERNELSUN_BLOCKED
+#define FAULT KERNELSUN_FAULT
+#define W KERNELSUN_WRITE
+#define R KERNELSUN_READ
+#define U KERNELSUN_UNMAP
+#define L KERNELSUN_LEVEL
+
+static const held_row held_rows[] = {
+    {"R1 beside another reader", R, 1, READ_BY_ANOTHER, WENT},
+    {"R1 with itself among the readers", R, 1, READ_BY_ITSELF, BLOCKED},
+    {"R1 with itself and all others among the readers", R, 1, READ_BY_ALL, BLOCKED},
+    {"R1 by the writer", R, 1, BY_ITSELF, BLOCKED},
+    {"R1 beside a writer", R, 1, BY_ANOTHER, BLOCKED},
+    {"R3 beside another reader", R, 3, READ_BY_ANOTHER, WENT},
+    {"R3 with itself among the readers", R, 3, READ_BY_ITSELF, FAULT},
+    {"R3 with itself and all others among the readers", R, 3, READ_BY_ALL, FAULT},
+    {"R3 by the writer", R, 3, BY_ITSELF, FAULT},
+    {"R3 beside a writer", R, 3, BY_ANOTHER, FAULT},
+
+    {"R5 by the writer", R, 5, BY_ITSELF, FAULT},
+    {"R6 by the writer", R, 6, BY_ITSELF, FAULT},
+    {"R5 by no reader", R, 5, READ_BY_ANOTHER, FAULT},
+    {"R6 by no reader", R, 6, READ_BY_ANOTHER, FAULT},
+    {"W9 by a reader", W, 9, READ_BY_ITSELF, FAULT},
+    {"W15 by a reader", W, 15, READ_BY_ITSELF, FAULT},
+    {"W16 by a reader", W, 16, READ_BY_ITSELF, FAULT},
+    {"U8 by a reader", U, 8, READ_BY_ITSELF, FAULT},
+    {"U10 by a reader", U, 10, READ_BY_ITSELF, FAULT},
+    {"L14 by a reader", L, 14, READ_BY_ITSELF, FAULT},
+    {"L15 by a reader", L, 15, READ_BY_ITSELF, FAULT},
+    {"L16 by a reader", L, 16, READ_BY_ITSELF, FAULT},
+
+    {"W2 by a reader", W, 2, READ_BY_ITSELF, BLOCKED},
+    {"U2 by a reader", U, 2, READ_BY_ITSELF, BLOCKED},
+    {"L6 by a reader", L, 6, READ_BY_ITSELF, BLOCKED},
+    {"L6 beside another reader", L, 6, READ_BY_ANOTHER, BLOCKED},
+    {"L6 by the writer", L, 6, BY_ITSELF, BLOCKED},
+
+    {"R4 by a reader", R, 4, READ_BY_ITSELF, WENT},
+    {"R4 by one of two readers", R, 4, READ_BY_BOTH, WENT},
+    {"R4 by the writer", R, 4, BY_ITSELF, WENT},
+    {"R4 beside another reader", R, 4, READ_BY_ANOTHER, FAULT},
+    {"R4 beside a writer", R, 4, BY_ANOTHER, FAULT},
+    {"L8 by a reader", L, 8, READ_BY_ITSELF, WENT},
+    {"L8 by one of two readers", L, 8, READ_BY_BOTH, WENT},
+    {"L8 by the writer", L, 8, BY_ITSELF, WENT},
+    {"L8 beside another reader", L, 8, READ_BY_ANOTHER, FAULT},
+    {"L8 beside a writer", L, 8, BY_ANOTHER, FAULT},
+    {"W7 by a reader", W, 7, READ_BY_ITSELF, FAULT},
+    {"W8 by a reader", W, 8, READ_BY_ITSELF, FAULT},
+    {"W14 by a reader", W, 14, READ_BY_ITSELF, FAULT},
+    {"U7 by a reader", U, 7, READ_BY_ITSELF, FAULT},
+    {"L10 by a reader", L, 10, READ_BY_ITSELF, FAULT},
+    {"L11 by a reader", L, 11, READ_BY_ITSELF, FAULT},
+    {"L13 by a reader", L, 13, READ_BY_ITSELF, FAULT},
+};
+
+static uint32_t held_word(int held, uint32_t thread, uint32_t other)
+{
+    switch (held) {
+    case BY_ITSELF: return 65536 * (thread + 1);
+    case BY_ANOTHER: return 65536 * (other + 1);
+    case READ_BY_ITSELF: return 1u << thread;
+    case READ_BY_ANOTHER: return 1u << other;
+    case READ_BY_BOTH: return 1u << thread | 1u << other;
+    default: return 65535;
+    }
+}
+
+/* The thread owns the headers; number 1 and blocks 2 and 3, which it names, are held alike. */
+static void check_held_row(const held_row *r, uint32_t thread, uint32_t other)
+{
+    static area a;
+    kernelsun_sizes s = {16, 2, 4, 2};
+    uint32_t word = held_word(r->held, thread, other);
+    const edit made[] = {{KERNELSUN_AT_OWNER, thread + 1},
+                         {kernelsun_at_thread(thread, KERNELSUN_THREAD_OPERATION), r->op},
+                         {kernelsun_at_thread(thread, KERNELSUN_THREAD_LINE), r->line},
+                         {kernelsun_at_thread(thread, KERNELSUN_THREAD_N), 1},
+                         {kernelsun_at_thread(thread, KERNELSUN_THREAD_P), 2},
+                         {kernelsun_at_thread(thread, KERNELSUN_THREAD_Q), 3},
+                         {kernelsun_at_lock(&s, 1), word},
+                         {kernelsun_at_block(&s, 2, KERNELSUN_BLOCK_OWNER), word},
+                         {kernelsun_at_block(&s, 2, KERNELSUN_BLOCK_HEADER), 2},
+                         {kernelsun_at_block(&s, 3, KERNELSUN_BLOCK_OWNER), word},
+                         {kernelsun_at_block(&s, 3, KERNELSUN_BLOCK_HEADER), 1}};
+    make_fresh(&a, s.t, s.n, s.p, s.d);
+    apply(&a, made, COUNT(made));
+    if (r->number == WENT) {
+        expect_steps(&a, thread, 1, WENT);
+    } else {
+        expect_refusal(&a, call_step(thread), r->number);
+    }
+}
+
+static void check_held_rows(void)
+{
+    static const uint32_t threads[] = {0, 1, 7, 14, 15};
+    for (size_t i = 0; i < COUNT(held_rows); i++) {
+        about(held_rows[i].what);
+        for (size_t j = 0; j < COUNT(threads); j++) {
+            for (size_t k = 0; k < COUNT(threads); k++) {
+                if (j != k) {
+                    check_held_row(&held_rows[i], threads[j], threads[k]);
+                }
+            }
+        }
+    }
 }
 
 /* ---- the largest store ---- */
@@ -594,6 +939,7 @@ static void check_format_and_shape(void)
     check_lengths();
     check_longest();
     check_word_limits();
+    check_holders();
     check_line_limits();
     check_idle_records();
     check_sizes_outside();
@@ -610,10 +956,14 @@ int main(void)
     check_levelling_case();
     check_rewrites();
     check_choices();
-    check_second_reader_waits();
+    check_second_reader_goes();
     check_second_writer_waits();
     check_read_before_unmap_finishes();
-    check_leveller_waits_for_reader();
+    check_two_readers();
+    check_sixteen_readers();
+    check_writers_wait();
+    check_leveller_waits();
+    check_held_rows();
     check_largest_store();
     return all_met("door");
 }

@@ -6,6 +6,8 @@
 #include <stdlib.h>
 #include <time.h>
 
+#include "kernelsun_view.h"
+
 enum { SEED_DEFAULT = 1990, SECONDS_DEFAULT = 50 };
 
 chance dice;
@@ -62,4 +64,35 @@ int all_met(const char *what, const char *const names[], const unsigned long tim
     }
     printf("  %u %s, rarest: %s, %lu times\n", (unsigned)count, what, names[rarest], times[rarest]);
     return whole;
+}
+
+static uint32_t some_set(uint32_t threads)
+{
+    return chance_below(&dice, (uint32_t)1 << threads);
+}
+
+uint32_t some_holders(uint32_t threads, uint32_t thread)
+{
+    switch (chance_below(&dice, 8)) {
+    case 0: case 1: return 0;
+    case 2: case 3: return kernelsun_writing(thread);
+    case 4: return kernelsun_bit(thread);
+    case 5: return some_set(threads) | kernelsun_bit(thread);
+    case 6: return some_set(threads) & ~kernelsun_bit(thread);
+    default: return kernelsun_writing(chance_below(&dice, threads));
+    }
+}
+
+/* With 16 threads no set has one that there isn't. */
+uint32_t some_malformed_holders(uint32_t threads)
+{
+    uint32_t writer = kernelsun_writing(chance_below(&dice, threads));
+    switch (chance_below(&dice, threads < KERNELSUN_THREADS_MOST ? 4 : 3)) {
+    case 0: return writer + kernelsun_bit(chance_below(&dice, threads));
+    case 1: return writer + chance_between(&dice, 1, KERNELSUN_READER_SETS - 1);
+    case 2: return kernelsun_writing(threads + (chance_one_in(&dice, 2) ? 0 : some_set(8)));
+    default:
+        return some_set(threads) |
+               kernelsun_bit(chance_between(&dice, threads, KERNELSUN_THREADS_MOST - 1));
+    }
 }

@@ -1,6 +1,6 @@
 /*
  * What fuzz tests of the door share: a run of rounds by a seed until enough calls
- * were made, and the count of what it met.
+ * were made, the count of what it met, and words for block locks and owners.
  *
  *     NAME [SEED [CALLS [SECONDS]]]
  */
@@ -26,5 +26,12 @@ int fuzz(const fuzz_plan *plan, int argc, char **argv);
 
 /* Names what was never met, and the rarest. Gives 0 if something never was. */
 int all_met(const char *what, const char *const names[], const unsigned long times[], size_t count);
+
+/* A block lock or a block's owner with so many threads: nobody, readers or a writer, a given thread
+   often among them. */
+uint32_t some_holders(uint32_t threads, uint32_t thread);
+
+/* One that is not well formed: a reader or a writer that there isn't, or readers beside a writer. */
+uint32_t some_malformed_holders(uint32_t threads);
 
 #endif

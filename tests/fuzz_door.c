@@ -73,13 +73,6 @@ static void fail(const char *why, const call *c, uint64_t door, uint64_t referen
     exit(1);
 }
 
-/* Whether the lock that a thread's next line takes, by the view, is held. */
-static int seen_held(const area *a, uint32_t thread)
-{
-    uint32_t lock = kernelsun_next_lock(a->bytes, thread);
-    return kernelsun_lock_holder(a->bytes, lock) != KERNELSUN_NONE;
-}
-
 /* What the view says of the area before a begin or a step agrees with what the call gave. */
 static int view_agrees(const call *c, uint32_t number, const area *before)
 {
@@ -88,7 +81,8 @@ static int view_agrees(const call *c, uint32_t number, const area *before)
     }
     return kernelsun_viewable(before->bytes, before->len) &&
            (c->which == CALL_BEGIN ||
-            seen_held(before, c->argument[0]) == (number == KERNELSUN_BLOCKED));
+            (kernelsun_waits_for(before->bytes, c->argument[0]) != 0) ==
+                (number == KERNELSUN_BLOCKED));
 }
 
 /* Makes the call on both, compares, and leaves the area after it in `now`. */
@@ -257,7 +251,7 @@ static void grow_and_finish(uint32_t entries)
 
 /* ---- Made at random ---- */
 
-/* A lock or owner: free, the thread that will step, or anyone. */
+/* H or the headers' owner: free, the thread that will step, or anyone. */
 static uint32_t some_holder(const kernelsun_sizes *s, uint32_t thread)
 {
     switch (chance_below(&dice, 5)) {
@@ -329,7 +323,7 @@ static void make_blocks(const kernelsun_sizes *s, uint32_t thread)
                  chance_hostile(&dice));
         put_word(now.bytes, kernelsun_at_block(s, p, KERNELSUN_BLOCK_WEAR), some_wear(s, ground));
         put_word(now.bytes, kernelsun_at_block(s, p, KERNELSUN_BLOCK_OWNER),
-                 some_holder(s, thread));
+                 some_holders(s->t, thread));
     }
 }
 
@@ -349,17 +343,29 @@ static void make_now(const kernelsun_sizes *s, uint32_t thread)
     for (uint32_t n = 0; n < s->n; n++) {
         uint32_t entry = chance_one_in(&dice, 3) ? 0 : chance_between(&dice, 0, s->p);
         put_word(now.bytes, kernelsun_at_map(s, n), entry);
-        put_word(now.bytes, kernelsun_at_lock(s, n), some_holder(s, thread));
+        put_word(now.bytes, kernelsun_at_lock(s, n), some_holders(s->t, thread));
     }
     make_blocks(s, thread);
 }
 
+/* The word of a block lock or of a block's owner. */
+static size_t some_place_of_holders(const kernelsun_sizes *s)
+{
+    return chance_one_in(&dice, 2)
+               ? kernelsun_at_lock(s, chance_below(&dice, s->n))
+               : kernelsun_at_block(s, chance_below(&dice, s->p), KERNELSUN_BLOCK_OWNER);
+}
+
+/* In one area of forty, one of these words is malformed. */
 static void step_made_areas(uint32_t count)
 {
     kernelsun_sizes s = some_sizes();
     for (uint32_t i = 0; i < count; i++) {
         uint32_t thread = chance_below(&dice, s.t);
         make_now(&s, thread);
+        if (chance_one_in(&dice, 40)) {
+            put_word(now.bytes, some_place_of_holders(&s), some_malformed_holders(s.t));
+        }
         while (kernelsun_number(compare(call_step(thread))) == KERNELSUN_WENT &&
                !chance_one_in(&dice, 3)) {
         }

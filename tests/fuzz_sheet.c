@@ -1,9 +1,9 @@
 /*
  * Compares add_area with the reference, call by call: number, value and each byte
  * of the tally. Areas are grown from fresh under random schedules, some with
- * headers and wear made at random, damaged in one word, of odd lengths, or any
- * bytes. Tallies are zeros, what the last call left, right ones, often at a bound,
- * ones with a field past its bound, or any words.
+ * headers, wear, block locks and block owners made at random, damaged in one word,
+ * of odd lengths, or any bytes. Tallies are zeros, what the last call left, right
+ * ones, often at a bound, ones with a field past its bound, or any words.
  *
  *     fuzz_sheet [SEED [CALLS [SECONDS]]]
  *
@@ -69,13 +69,14 @@ static int first_past(const tally *t)
 
 enum {
     FULL_GOOD, FULL_MALFORMED, PAST_AT_200, MALFORMED, MALFORMED_FIRST, FIRST_BLOCKS, MORE_BLOCKS,
-    OPEN_WORK, LEAST_LOWERED, LEAST_STAYS, LEAST_EQUAL, MOST_RAISED, MOST_STAYS, MOST_EQUAL,
-    GARBAGE_UNREAD, LARGEST_AREA, ACTS
+    OPEN_WORK, READ_BY_SOME, WRITTEN, LEAST_LOWERED, LEAST_STAYS, LEAST_EQUAL, MOST_RAISED,
+    MOST_STAYS, MOST_EQUAL, GARBAGE_UNREAD, LARGEST_AREA, ACTS
 };
 
 static const char *const act_names[ACTS] = {
     "FULL, a well-formed area", "FULL, a malformed area", "TALLY with 200 areas", "malformed",
     "malformed before the first block", "first blocks", "more blocks", "open work",
+    "a block with several readers", "a block with a writer",
     "least lowered", "least stays", "least equalled", "most raised", "most stays",
     "most equalled", "least and most not read, beyond the first blocks' own", "the largest area",
 };
@@ -103,10 +104,20 @@ static int has_open_work(void)
     return open;
 }
 
+static void count_owners(void)
+{
+    for (uint32_t p = 0; p < kernelsun_p(now.bytes); p++) {
+        uint32_t readers = kernelsun_block_readers(now.bytes, p);
+        acts[READ_BY_SOME] += (readers & (readers - 1)) != 0;
+        acts[WRITTEN] += kernelsun_block_writer(now.bytes, p) != KERNELSUN_NONE;
+    }
+}
+
 static void count_good(const tally *before)
 {
     uint32_t least, most;
     wear_of_now(&least, &most);
+    count_owners();
     acts[OPEN_WORK] += has_open_work();
     acts[LARGEST_AREA] += now.len == KERNELSUN_LENGTH_MOST;
     if (before->blocks == 0) {
@@ -282,6 +293,20 @@ static void wear_at_random(void)
     }
 }
 
+/* Locks and owners made at random, in one of three areas one of them malformed. */
+static void hold_at_random(void)
+{
+    kernelsun_sizes s = kernelsun_sizes_of(now.bytes);
+    size_t bad = chance_one_in(&dice, 3) ? chance_below(&dice, s.n + s.p) : s.n + s.p;
+    for (uint32_t i = 0; i < s.n + s.p; i++) {
+        size_t word = i < s.n ? kernelsun_at_lock(&s, i)
+                              : kernelsun_at_block(&s, i - s.n, KERNELSUN_BLOCK_OWNER);
+        put_word(now.bytes, word,
+                 i == bad ? some_malformed_holders(s.t)
+                          : some_holders(s.t, chance_below(&dice, s.t)));
+    }
+}
+
 static void damage(void)
 {
     uint32_t words = (uint32_t)(now.len / BYTES_IN_WORD);
@@ -318,6 +343,7 @@ static void make_area(void)
     case 0: case 1: damage(); break;
     case 2: lengthen_or_shorten(); break;
     case 3: fill_at_random(); break;
+    case 4: case 5: hold_at_random(); break;
     default: break;
     }
 }

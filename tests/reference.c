@@ -1,9 +1,9 @@
 /*
- * The step machine of document 01, with W3 as document 02, §1, has it, straight
- * on the bytes. Its parts follow document 01: the shape of an area, the acts that
- * lines are made of with their needs, the lines of the four operations, and the
- * three calls with their refusals in the table's order. The tally of document 02,
- * §2, comes last.
+ * The step machine of document 01, with W3 as document 02, §1, has it and with
+ * block locks and block owners as §3 has them, straight on the bytes. Its parts
+ * follow document 01: the shape of an area, the acts that lines are made of with
+ * their needs, the lines of the four operations, and the three calls with their
+ * refusals in the table's order. The tally of document 02, §2, comes last.
  *
  * An act looks at its need first and writes afterwards, and nothing is written
  * outside an act before the act went. That is how a blocked or refused call
@@ -61,16 +61,24 @@ static int thread_record_well_formed(const uint8_t *area, const kernelsun_sizes 
            kernelsun_of_thread(area, thread, KERNELSUN_THREAD_H) <= s->n;
 }
 
+/* A block lock or a block's owner: readers, or a writer, and all of them below T. */
+static int holders_well_formed(uint32_t word, uint32_t t)
+{
+    uint32_t readers = word % KERNELSUN_READER_SETS, writer_plus_one = word / KERNELSUN_READER_SETS;
+    return writer_plus_one == 0 ? readers >> t == 0 : readers == 0 && writer_plus_one <= t;
+}
+
 static int logical_block_well_formed(const uint8_t *area, const kernelsun_sizes *s, uint32_t n)
 {
     return kernelsun_word(area, kernelsun_at_map(s, n)) <= s->p &&
-           kernelsun_word(area, kernelsun_at_lock(s, n)) <= s->t;
+           holders_well_formed(kernelsun_word(area, kernelsun_at_lock(s, n)), s->t);
 }
 
 static int physical_block_well_formed(const uint8_t *area, const kernelsun_sizes *s, uint32_t p)
 {
     return kernelsun_word(area, kernelsun_at_block(s, p, KERNELSUN_BLOCK_HEADER)) <= s->n &&
-           kernelsun_word(area, kernelsun_at_block(s, p, KERNELSUN_BLOCK_OWNER)) <= s->t;
+           holders_well_formed(
+               kernelsun_word(area, kernelsun_at_block(s, p, KERNELSUN_BLOCK_OWNER)), s->t);
 }
 
 static int records_well_formed(const uint8_t *area, const kernelsun_sizes *s)
@@ -123,7 +131,7 @@ static void set_reg(machine *m, size_t field, uint32_t value)
     put_word(m->area, kernelsun_at_thread(m->thread, field), value);
 }
 
-/* What a lock or owner word holds when it is this thread's. */
+/* What H's word and the headers' owner hold when they are this thread's. */
 static uint32_t mine(const machine *m)
 {
     return m->thread + 1;
@@ -163,7 +171,7 @@ static void count_erase(machine *m, uint32_t p)
     }
 }
 
-/* ---- Acts on locks and owners ---- */
+/* ---- Acts on H and on the headers' owner ---- */
 
 static uint32_t take(machine *m, size_t lock)
 {
@@ -195,6 +203,94 @@ static uint32_t own(machine *m, size_t owner)
 static uint32_t let_go(machine *m, size_t owner)
 {
     return release(m, owner);
+}
+
+/* ---- Acts on block locks and on the owners of blocks: document 02, §3 ---- */
+
+/* This thread in a set of readers. */
+static uint32_t my_bit(const machine *m)
+{
+    return (uint32_t)1 << m->thread;
+}
+
+/* What the word holds when this thread is the writer. */
+static uint32_t my_writing(const machine *m)
+{
+    return KERNELSUN_READER_SETS * mine(m);
+}
+
+static int has_writer(const machine *m, size_t word)
+{
+    return kernelsun_word(m->area, word) >= KERNELSUN_READER_SETS;
+}
+
+static int i_read(const machine *m, size_t word)
+{
+    return !has_writer(m, word) && (kernelsun_word(m->area, word) & my_bit(m)) != 0;
+}
+
+static int i_write(const machine *m, size_t word)
+{
+    return kernelsun_word(m->area, word) == my_writing(m);
+}
+
+/* Other readers are no hindrance; a writer is, and so is this thread itself. */
+static uint32_t come_to_read(machine *m, size_t word, uint32_t hindered)
+{
+    if (has_writer(m, word) || i_read(m, word)) {
+        return hindered;
+    }
+    put_word(m->area, word, kernelsun_word(m->area, word) + my_bit(m));
+    return KERNELSUN_WENT;
+}
+
+static uint32_t come_to_write(machine *m, size_t word, uint32_t hindered)
+{
+    if (kernelsun_word(m->area, word) != 0) {
+        return hindered;
+    }
+    put_word(m->area, word, my_writing(m));
+    return KERNELSUN_WENT;
+}
+
+static uint32_t take_to_read(machine *m, size_t lock)
+{
+    return come_to_read(m, lock, KERNELSUN_BLOCKED);
+}
+
+static uint32_t own_to_read(machine *m, size_t owner)
+{
+    return come_to_read(m, owner, KERNELSUN_FAULT);
+}
+
+static uint32_t take_to_write(machine *m, size_t lock)
+{
+    return come_to_write(m, lock, KERNELSUN_BLOCKED);
+}
+
+static uint32_t own_to_write(machine *m, size_t owner)
+{
+    return come_to_write(m, owner, KERNELSUN_FAULT);
+}
+
+/* Releases the lock or lets go the block that this thread reads. The other readers stay. */
+static uint32_t end_reading(machine *m, size_t word)
+{
+    if (!i_read(m, word)) {
+        return KERNELSUN_FAULT;
+    }
+    put_word(m->area, word, kernelsun_word(m->area, word) - my_bit(m));
+    return KERNELSUN_WENT;
+}
+
+/* Releases the lock or lets go the block that this thread writes. */
+static uint32_t end_writing(machine *m, size_t word)
+{
+    if (!i_write(m, word)) {
+        return KERNELSUN_FAULT;
+    }
+    put_word(m->area, word, 0);
+    return KERNELSUN_WENT;
 }
 
 static size_t n_lock(const machine *m)
@@ -258,7 +354,7 @@ static uint32_t if_unmapped_empty_and_go(machine *m, uint32_t there)
 static uint32_t write_header(machine *m, uint32_t p, uint32_t header)
 {
     if (!is_mine(m, KERNELSUN_AT_OWNER) ||
-        !is_mine(m, kernelsun_at_block(&m->s, p, KERNELSUN_BLOCK_OWNER))) {
+        !i_write(m, kernelsun_at_block(&m->s, p, KERNELSUN_BLOCK_OWNER))) {
         return KERNELSUN_FAULT;
     }
     set_block(m, p, KERNELSUN_BLOCK_HEADER, header);
@@ -275,14 +371,11 @@ static uint32_t free_and_wear(machine *m, uint32_t p)
     return number;
 }
 
-static int content_within_reach(const machine *m, uint32_t p)
-{
-    return is_mine(m, kernelsun_at_block(&m->s, p, KERNELSUN_BLOCK_OWNER)) && !is_free(m, p);
-}
-
+/* R4 and L8: who writes the block may read it too. */
 static uint32_t read_content(machine *m, uint32_t p)
 {
-    if (!content_within_reach(m, p)) {
+    size_t owner = kernelsun_at_block(&m->s, p, KERNELSUN_BLOCK_OWNER);
+    if (!(i_read(m, owner) || i_write(m, owner)) || is_free(m, p)) {
         return KERNELSUN_FAULT;
     }
     set_reg(m, KERNELSUN_THREAD_C, block(m, p, KERNELSUN_BLOCK_CONTENT));
@@ -291,7 +384,7 @@ static uint32_t read_content(machine *m, uint32_t p)
 
 static uint32_t write_content(machine *m, uint32_t p, uint32_t content)
 {
-    if (!content_within_reach(m, p)) {
+    if (!i_write(m, kernelsun_at_block(&m->s, p, KERNELSUN_BLOCK_OWNER)) || is_free(m, p)) {
         return KERNELSUN_FAULT;
     }
     set_block(m, p, KERNELSUN_BLOCK_CONTENT, content);
@@ -387,33 +480,33 @@ static uint32_t write_line(machine *m, uint32_t line)
     uint32_t n = reg(m, KERNELSUN_THREAD_N), p = reg(m, KERNELSUN_THREAD_P);
     switch (line) {
     case 1: return take(m, KERNELSUN_AT_LOCK);
-    case 2: return take(m, n_lock(m));
+    case 2: return take_to_write(m, n_lock(m));
     case 3: return if_mapped_wear_and_go(m, 12);
     case 4: return own(m, KERNELSUN_AT_OWNER);
     case 5: return choose_free(m);
-    case 6: return own(m, owner_of(m, KERNELSUN_THREAD_P));
+    case 6: return own_to_write(m, owner_of(m, KERNELSUN_THREAD_P));
     case 7: return write_header(m, p, n + 1);
     case 8: return write_content(m, p, 0);
-    case 9: return let_go(m, owner_of(m, KERNELSUN_THREAD_P));
+    case 9: return end_writing(m, owner_of(m, KERNELSUN_THREAD_P));
     case 10: return map_to(m, p + 1);
     case 11: return let_go(m, KERNELSUN_AT_OWNER);
     case 12: return release(m, KERNELSUN_AT_LOCK);
-    case 13: return own(m, owner_of(m, KERNELSUN_THREAD_P));
+    case 13: return own_to_write(m, owner_of(m, KERNELSUN_THREAD_P));
     case 14: return write_content(m, p, reg(m, KERNELSUN_THREAD_C));
-    case 15: return let_go(m, owner_of(m, KERNELSUN_THREAD_P));
-    default: return release(m, n_lock(m));
+    case 15: return end_writing(m, owner_of(m, KERNELSUN_THREAD_P));
+    default: return end_writing(m, n_lock(m));
     }
 }
 
 static uint32_t read_line(machine *m, uint32_t line)
 {
     switch (line) {
-    case 1: return take(m, n_lock(m));
+    case 1: return take_to_read(m, n_lock(m));
     case 2: return if_unmapped_empty_and_go(m, 6);
-    case 3: return own(m, owner_of(m, KERNELSUN_THREAD_P));
+    case 3: return own_to_read(m, owner_of(m, KERNELSUN_THREAD_P));
     case 4: return read_content(m, reg(m, KERNELSUN_THREAD_P));
-    case 5: return let_go(m, owner_of(m, KERNELSUN_THREAD_P));
-    default: return release(m, n_lock(m));
+    case 5: return end_reading(m, owner_of(m, KERNELSUN_THREAD_P));
+    default: return end_reading(m, n_lock(m));
     }
 }
 
@@ -421,15 +514,15 @@ static uint32_t unmap_line(machine *m, uint32_t line)
 {
     switch (line) {
     case 1: return take(m, KERNELSUN_AT_LOCK);
-    case 2: return take(m, n_lock(m));
+    case 2: return take_to_write(m, n_lock(m));
     case 3: return if_unmapped_go(m, 10);
     case 4: return own(m, KERNELSUN_AT_OWNER);
-    case 5: return own(m, owner_of(m, KERNELSUN_THREAD_P));
+    case 5: return own_to_write(m, owner_of(m, KERNELSUN_THREAD_P));
     case 6: return map_to(m, 0);
     case 7: return free_and_wear(m, reg(m, KERNELSUN_THREAD_P));
-    case 8: return let_go(m, owner_of(m, KERNELSUN_THREAD_P));
+    case 8: return end_writing(m, owner_of(m, KERNELSUN_THREAD_P));
     case 9: return let_go(m, KERNELSUN_AT_OWNER);
-    case 10: return release(m, n_lock(m));
+    case 10: return end_writing(m, n_lock(m));
     default: return release(m, KERNELSUN_AT_LOCK);
     }
 }
@@ -443,17 +536,17 @@ static uint32_t level_line(machine *m, uint32_t line)
     case 3: return choose_from_and_to(m);
     case 4: return read_header(m, p);
     case 5: return if_free_go(m, 17);
-    case 6: return take(m, n_lock(m));
-    case 7: return own(m, owner_of(m, KERNELSUN_THREAD_P));
+    case 6: return take_to_write(m, n_lock(m));
+    case 7: return own_to_write(m, owner_of(m, KERNELSUN_THREAD_P));
     case 8: return read_content(m, p);
-    case 9: return own(m, owner_of(m, KERNELSUN_THREAD_Q));
+    case 9: return own_to_write(m, owner_of(m, KERNELSUN_THREAD_Q));
     case 10: return write_header(m, q, reg(m, KERNELSUN_THREAD_H));
     case 11: return write_content(m, q, reg(m, KERNELSUN_THREAD_C));
     case 12: return map_to(m, q + 1);
     case 13: return free_and_wear(m, p);
-    case 14: return let_go(m, owner_of(m, KERNELSUN_THREAD_Q));
-    case 15: return let_go(m, owner_of(m, KERNELSUN_THREAD_P));
-    case 16: return release(m, n_lock(m));
+    case 14: return end_writing(m, owner_of(m, KERNELSUN_THREAD_Q));
+    case 15: return end_writing(m, owner_of(m, KERNELSUN_THREAD_P));
+    case 16: return end_writing(m, n_lock(m));
     case 17: return let_go(m, KERNELSUN_AT_OWNER);
     default: return release(m, KERNELSUN_AT_LOCK);
     }

@@ -81,6 +81,12 @@ static void make_two(area *a, uint32_t first, uint32_t second)
     put_block(a, 1, 0, second);
 }
 
+/* The most that a block lock or a block's owner may be with t threads. */
+static uint32_t last_writer(uint32_t t)
+{
+    return 65536 * t;
+}
+
 /* No block worn and all free, and each word that isn't to be counted at its most. */
 static void make_busy(area *a, kernelsun_sizes s)
 {
@@ -99,12 +105,13 @@ static void make_busy(area *a, kernelsun_sizes s)
         apply(a, record, COUNT(record));
     }
     for (uint32_t n = 0; n < s.n; n++) {
-        const edit number[] = {{kernelsun_at_map(&s, n), s.p}, {kernelsun_at_lock(&s, n), s.t}};
+        const edit number[] = {{kernelsun_at_map(&s, n), s.p},
+                               {kernelsun_at_lock(&s, n), last_writer(s.t)}};
         apply(a, number, COUNT(number));
     }
     for (uint32_t p = 0; p < s.p; p++) {
         const edit block[] = {{kernelsun_at_block(&s, p, KERNELSUN_BLOCK_CONTENT), MOST},
-                              {kernelsun_at_block(&s, p, KERNELSUN_BLOCK_OWNER), s.t}};
+                              {kernelsun_at_block(&s, p, KERNELSUN_BLOCK_OWNER), last_writer(s.t)}};
         apply(a, block, COUNT(block));
     }
 }
@@ -244,6 +251,17 @@ static void expect_word_limit(size_t word, uint32_t most)
     expect_malformed(&a);
 }
 
+/* A block lock or a block's owner: the last writer, all readers, a writer that there isn't. */
+static void expect_holders_limit(size_t word, uint32_t t)
+{
+    static area a;
+    expect_word_limit(word, last_writer(t));
+    expect_word_limit(word, ((uint32_t)1 << t) - 1);
+    make_busy(&a, (kernelsun_sizes){3, 2, 4, 2});
+    put_word(a.bytes, word, last_writer(t + 1));
+    expect_malformed(&a);
+}
+
 static void check_words(void)
 {
     kernelsun_sizes s = {3, 2, 4, 2};
@@ -257,10 +275,12 @@ static void check_words(void)
     expect_word_limit(kernelsun_at_thread(2, KERNELSUN_THREAD_Q), s.p - 1);
     expect_word_limit(kernelsun_at_thread(2, KERNELSUN_THREAD_H), s.n);
     expect_word_limit(kernelsun_at_map(&s, s.n - 1), s.p);
-    expect_word_limit(kernelsun_at_lock(&s, 0), s.t);
+    for (uint32_t n = 0; n < s.n; n++) {
+        expect_holders_limit(kernelsun_at_lock(&s, n), s.t);
+    }
     for (uint32_t p = 0; p < s.p; p++) {
         expect_word_limit(kernelsun_at_block(&s, p, KERNELSUN_BLOCK_HEADER), s.n);
-        expect_word_limit(kernelsun_at_block(&s, p, KERNELSUN_BLOCK_OWNER), s.t);
+        expect_holders_limit(kernelsun_at_block(&s, p, KERNELSUN_BLOCK_OWNER), s.t);
     }
     static area a;
     about("an idle record that isn't seven zeros");

@@ -114,34 +114,39 @@ static uint32_t size_d_of(const uint8_t *area)
     return kernelsun_sizes_of(area).d;
 }
 
-/* "Named" are words that are 0 for nobody and else a number plus one. */
+/* How a word is read: as it is; 0 for nobody and else a number plus one; the writer above its low
+   16 bits, a number plus one as well; the readers in these. */
+typedef enum { PLAIN, NAMED, WRITER, READERS } reading;
+
 typedef struct {
     const char *what;
     read_whole *read;
     size_t word;
-    int named;
+    reading as;
 } whole_row;
 
 static const whole_row whole_rows[] = {
-    {"kernelsun_t", kernelsun_t, 0, 0},
-    {"kernelsun_n", kernelsun_n, 1, 0},
-    {"kernelsun_p", kernelsun_p, 2, 0},
-    {"kernelsun_d", kernelsun_d, 3, 0},
-    {"kernelsun_sizes_of: t", size_t_of, 0, 0},
-    {"kernelsun_sizes_of: n", size_n_of, 1, 0},
-    {"kernelsun_sizes_of: p", size_p_of, 2, 0},
-    {"kernelsun_sizes_of: d", size_d_of, 3, 0},
-    {"kernelsun_lock_h", kernelsun_lock_h, LOCK_H, 1},
-    {"kernelsun_headers_owner", kernelsun_headers_owner, HEADERS, 1},
+    {"kernelsun_t", kernelsun_t, 0, PLAIN},
+    {"kernelsun_n", kernelsun_n, 1, PLAIN},
+    {"kernelsun_p", kernelsun_p, 2, PLAIN},
+    {"kernelsun_d", kernelsun_d, 3, PLAIN},
+    {"kernelsun_sizes_of: t", size_t_of, 0, PLAIN},
+    {"kernelsun_sizes_of: n", size_n_of, 1, PLAIN},
+    {"kernelsun_sizes_of: p", size_p_of, 2, PLAIN},
+    {"kernelsun_sizes_of: d", size_d_of, 3, PLAIN},
+    {"kernelsun_lock_h", kernelsun_lock_h, LOCK_H, NAMED},
+    {"kernelsun_headers_owner", kernelsun_headers_owner, HEADERS, NAMED},
 };
 
 /* What a word of that value must be read as. */
-static uint32_t meaning(uint32_t word, int named)
+static uint32_t meaning(uint32_t word, reading as)
 {
-    if (!named) {
-        return word;
+    switch (as) {
+    case PLAIN: return word;
+    case NAMED: return word == 0 ? NONE : word - 1;
+    case WRITER: return meaning(word / 65536, NAMED);
+    default: return word % 65536;
     }
-    return word == 0 ? NONE : word - 1;
 }
 
 static void check_whole_row(const whole_row *r, uint32_t value)
@@ -150,7 +155,7 @@ static void check_whole_row(const whole_row *r, uint32_t value)
     make_distinct(&a);
     put_word(a.bytes, r->word, value);
     for (unsigned place = 0; place < PLACES; place++) {
-        expect_equal(r->what, r->read(placed(&a, place)), meaning(value, r->named));
+        expect_equal(r->what, r->read(placed(&a, place)), meaning(value, r->as));
     }
 }
 
@@ -161,6 +166,19 @@ static void check_whole(void)
         check_whole_row(&whole_rows[i], value_at(whole_rows[i].word));
         check_whole_row(&whole_rows[i], 0);
         check_whole_row(&whole_rows[i], 1);
+    }
+}
+
+static void check_bits(void)
+{
+    static const uint32_t no_thread[] = {16, 17, 31, 32, 33, 255, 0x80000000u, MOST - 1, NONE};
+    about("a thread's bit, and its word as a writer");
+    for (uint32_t thread = 0; thread < 16; thread++) {
+        expect_equal("bit", kernelsun_bit(thread), 1u << thread);
+        expect_equal("writing", kernelsun_writing(thread), 65536 * (thread + 1));
+    }
+    for (size_t i = 0; i < COUNT(no_thread); i++) {
+        expect_equal("no bit", kernelsun_bit(no_thread[i]), 0);
     }
 }
 
@@ -182,25 +200,27 @@ typedef struct {
     read_one *read;
     size_t first, stride;
     uint32_t count;
-    int named;
+    reading as;
 } row;
 
 static const row rows[] = {
-    {"kernelsun_operation", kernelsun_operation, RECORDS, RECORD_WORDS, T, 0},
-    {"kernelsun_line", kernelsun_line, RECORDS + 1, RECORD_WORDS, T, 0},
-    {"kernelsun_register_n", kernelsun_register_n, RECORDS + 2, RECORD_WORDS, T, 0},
-    {"kernelsun_register_c", kernelsun_register_c, RECORDS + 3, RECORD_WORDS, T, 0},
-    {"kernelsun_register_p", kernelsun_register_p, RECORDS + 4, RECORD_WORDS, T, 0},
-    {"kernelsun_register_q", kernelsun_register_q, RECORDS + 5, RECORD_WORDS, T, 0},
-    {"kernelsun_register_h", kernelsun_register_h, RECORDS + 6, RECORD_WORDS, T, 1},
-    {"kernelsun_map", kernelsun_map, MAP, 1, N, 1},
-    {"kernelsun_of_map", kernelsun_of_map, MAP, 1, N, 0},
-    {"kernelsun_lock", kernelsun_lock, LOCKS, 1, N, 1},
-    {"kernelsun_of_lock", kernelsun_of_lock, LOCKS, 1, N, 0},
-    {"kernelsun_header", kernelsun_header, BLOCKS, BLOCK_WORDS, P, 1},
-    {"kernelsun_content", kernelsun_content, BLOCKS + 1, BLOCK_WORDS, P, 0},
-    {"kernelsun_wear", kernelsun_wear, BLOCKS + 2, BLOCK_WORDS, P, 0},
-    {"kernelsun_owner", kernelsun_owner, BLOCKS + 3, BLOCK_WORDS, P, 1},
+    {"kernelsun_operation", kernelsun_operation, RECORDS, RECORD_WORDS, T, PLAIN},
+    {"kernelsun_line", kernelsun_line, RECORDS + 1, RECORD_WORDS, T, PLAIN},
+    {"kernelsun_register_n", kernelsun_register_n, RECORDS + 2, RECORD_WORDS, T, PLAIN},
+    {"kernelsun_register_c", kernelsun_register_c, RECORDS + 3, RECORD_WORDS, T, PLAIN},
+    {"kernelsun_register_p", kernelsun_register_p, RECORDS + 4, RECORD_WORDS, T, PLAIN},
+    {"kernelsun_register_q", kernelsun_register_q, RECORDS + 5, RECORD_WORDS, T, PLAIN},
+    {"kernelsun_register_h", kernelsun_register_h, RECORDS + 6, RECORD_WORDS, T, NAMED},
+    {"kernelsun_map", kernelsun_map, MAP, 1, N, NAMED},
+    {"kernelsun_of_map", kernelsun_of_map, MAP, 1, N, PLAIN},
+    {"kernelsun_lock_writer", kernelsun_lock_writer, LOCKS, 1, N, WRITER},
+    {"kernelsun_lock_readers", kernelsun_lock_readers, LOCKS, 1, N, READERS},
+    {"kernelsun_of_lock", kernelsun_of_lock, LOCKS, 1, N, PLAIN},
+    {"kernelsun_header", kernelsun_header, BLOCKS, BLOCK_WORDS, P, NAMED},
+    {"kernelsun_content", kernelsun_content, BLOCKS + 1, BLOCK_WORDS, P, PLAIN},
+    {"kernelsun_wear", kernelsun_wear, BLOCKS + 2, BLOCK_WORDS, P, PLAIN},
+    {"kernelsun_block_writer", kernelsun_block_writer, BLOCKS + 3, BLOCK_WORDS, P, WRITER},
+    {"kernelsun_block_readers", kernelsun_block_readers, BLOCKS + 3, BLOCK_WORDS, P, READERS},
 };
 
 static void expect_read(const row *r, const area *a, uint32_t index, uint32_t wanted)
@@ -212,20 +232,21 @@ static void expect_read(const row *r, const area *a, uint32_t index, uint32_t wa
 
 static void check_row(const row *r)
 {
+    static const uint32_t values[] = {0, 1, 2, 32768, 65535, 65536, 65537, 131072, 1048576, MOST};
     static area a;
     make_distinct(&a);
     for (uint32_t i = 0; i < r->count; i++) {
-        expect_read(r, &a, i, meaning(value_at(r->first + r->stride * i), r->named));
+        expect_read(r, &a, i, meaning(value_at(r->first + r->stride * i), r->as));
     }
-    expect_read(r, &a, r->count, meaning(0, r->named));
+    expect_read(r, &a, r->count, meaning(0, r->as));
     for (size_t i = 0; i < COUNT(past_all); i++) {
-        expect_read(r, &a, past_all[i], meaning(0, r->named));
+        expect_read(r, &a, past_all[i], meaning(0, r->as));
     }
     for (uint32_t i = 0; i < r->count; i++) {
-        put_word(a.bytes, r->first + r->stride * i, 0);
-        expect_read(r, &a, i, meaning(0, r->named));
-        put_word(a.bytes, r->first + r->stride * i, 1);
-        expect_read(r, &a, i, meaning(1, r->named));
+        for (size_t k = 0; k < COUNT(values); k++) {
+            put_word(a.bytes, r->first + r->stride * i, values[k]);
+            expect_read(r, &a, i, meaning(values[k], r->as));
+        }
     }
 }
 
@@ -396,7 +417,8 @@ static void check_version(void)
 
 /* ---- Lines: their labels and their locks ---- */
 
-/* A letter for each line: H takes the header lock, n the lock of register n, - takes none. */
+/* A letter for each line: H takes the header lock, n the lock of register n to write, r to read, -
+   takes none. */
 typedef struct {
     char letter;
     const char *takes;
@@ -406,7 +428,7 @@ typedef struct {
 static const operation operations[] = {
     {'?', "", 0},
     {'W', "Hn--------------", 16},
-    {'R', "n-----", 6},
+    {'R', "r-----", 6},
     {'U', "Hn---------", 11},
     {'L', "H----n------------", 18},
 };
@@ -427,40 +449,56 @@ static uint32_t lock_of(char takes)
 {
     switch (takes) {
     case 'H': return KERNELSUN_LOCK_H;
-    case 'n': return NUMBER;
+    case 'n':
+    case 'r': return NUMBER;
     default: return NONE;
     }
 }
 
-/* All three locks of numbers and H are held by thread 0, but for one word, or but for none. */
-static void hold_all_but(area *a, size_t word)
+/* Each word of a number's lock that two threads may leave, and a word of H. */
+static const struct {
+    uint32_t lock, h;
+    /* For whom thread 1 waits, as sets: for H, at that lock to write, and there to read. */
+    uint32_t for_h, to_write, to_read;
+} held[] = {
+    {1, 1, 1, 1, 0}, {2, 2, 2, 2, 2}, {3, 1, 1, 3, 2}, {65536, 1, 1, 1, 1}, {131072, 2, 2, 2, 2},
+};
+
+/* All three locks of numbers and H are held so, but for one word, or but for none. */
+static void hold_all_but(area *a, size_t word, size_t how)
 {
-    static const size_t locks[] = {LOCK_H, LOCKS, LOCKS + 1, LOCKS + 2};
-    for (size_t i = 0; i < COUNT(locks); i++) {
-        put_word(a->bytes, locks[i], locks[i] != word);
+    for (size_t lock = LOCKS; lock < LOCKS + N; lock++) {
+        put_word(a->bytes, lock, lock != word ? held[how].lock : 0);
     }
+    put_word(a->bytes, LOCK_H, LOCK_H != word ? held[how].h : 0);
 }
 
-static void expect_blocked(area *a, int blocked, uint32_t lock)
+static void expect_blocked(area *a, uint32_t lock, uint32_t waits_for)
 {
     call c = call_step(STEPPER);
     expect_equal("lock that is taken", kernelsun_next_lock(a->bytes, STEPPER), lock);
-    expect_equal("its holder", kernelsun_lock_holder(a->bytes, lock), blocked ? 0 : NONE);
+    expect_equal("who is waited for", kernelsun_waits_for(a->bytes, STEPPER), waits_for);
     uint32_t number = kernelsun_number(through_door(&c, a));
-    expect_equal("the step is blocked", number == KERNELSUN_BLOCKED, (uint32_t)blocked);
+    expect_equal("the step is blocked", number == KERNELSUN_BLOCKED, waits_for != 0);
 }
 
-/* A line is blocked by the lock that the view names, and by no other one. */
+/* A line waits for the lock that the view names, and for no other one. */
 static void check_lock_of_line(uint32_t op, uint32_t line, char takes)
 {
     static area a;
     uint32_t lock = lock_of(takes);
-    make_at_line(&a, op, line);
-    hold_all_but(&a, takes == 'H' ? LOCK_H : LOCKS + NUMBER);
-    expect_blocked(&a, 0, lock);
-    make_at_line(&a, op, line);
-    hold_all_but(&a, 0);
-    expect_blocked(&a, takes != '-', lock);
+    for (size_t how = 0; how < COUNT(held); how++) {
+        make_at_line(&a, op, line);
+        hold_all_but(&a, takes == 'H' ? LOCK_H : LOCKS + NUMBER, how);
+        expect_blocked(&a, lock, 0);
+        make_at_line(&a, op, line);
+        hold_all_but(&a, 0, how);
+        expect_blocked(&a, lock,
+                       takes == 'H'   ? held[how].for_h
+                       : takes == 'n' ? held[how].to_write
+                       : takes == 'r' ? held[how].to_read
+                                      : 0);
+    }
 }
 
 static void check_label_of_line(uint32_t op, uint32_t line, char letter)
@@ -475,6 +513,9 @@ static void check_label_of_line(uint32_t op, uint32_t line, char letter)
     expect_text("label of no thread", kernelsun_thread_label(a.bytes, T), "-");
     expect_equal("lock of an idle thread", kernelsun_next_lock(a.bytes, 0), NONE);
     expect_equal("lock of no thread", kernelsun_next_lock(a.bytes, T), NONE);
+    expect_equal("an idle thread waits", kernelsun_waits_for(a.bytes, 0), 0);
+    expect_equal("no thread waits", kernelsun_waits_for(a.bytes, T), 0);
+    expect_equal("nor one past all", kernelsun_waits_for(a.bytes, MOST), 0);
 }
 
 static void check_lines(void)
@@ -511,17 +552,22 @@ static void check_no_lines(void)
     }
 }
 
-static void check_lock_holders(void)
+/* The door refuses such areas; the view reads nothing else for them. */
+static void check_no_holders(void)
 {
     static area a;
-    make_distinct(&a);
-    about("who holds a lock that was named");
-    expect_equal("H", kernelsun_lock_holder(a.bytes, KERNELSUN_LOCK_H), value_at(LOCK_H) - 1);
-    for (uint32_t n = 0; n < N; n++) {
-        expect_equal("a number's", kernelsun_lock_holder(a.bytes, n), value_at(LOCKS + n) - 1);
-    }
-    expect_equal("past the last", kernelsun_lock_holder(a.bytes, N), NONE);
-    expect_equal("none", kernelsun_lock_holder(a.bytes, NONE), NONE);
+    about("locks whose holder is no thread");
+    make_at_line(&a, KERNELSUN_WRITE, 1);
+    put_word(a.bytes, LOCK_H, MOST);
+    expect_equal("for H", kernelsun_waits_for(a.bytes, STEPPER), 0);
+    make_at_line(&a, KERNELSUN_WRITE, 2);
+    put_word(a.bytes, LOCKS + NUMBER, 0xffff0004u);
+    expect_equal("for a number's to write", kernelsun_waits_for(a.bytes, STEPPER), 4);
+    make_at_line(&a, KERNELSUN_READ, 1);
+    put_word(a.bytes, LOCKS + NUMBER, 0xffff0004u);
+    expect_equal("for a number's to read", kernelsun_waits_for(a.bytes, STEPPER), 0);
+    put_word(a.bytes, RECORD + 2, N);
+    expect_equal("for no number's", kernelsun_waits_for(a.bytes, STEPPER), 0);
 }
 
 /* ---- What the door did ---- */
@@ -537,13 +583,15 @@ static void expect_writing(const uint8_t *area, uint32_t n, uint32_t line)
 {
     uint32_t p = 0;
     expect_held("H", kernelsun_lock_h(area), line, 1, 12);
-    expect_held("its lock", kernelsun_lock(area, n), line, 2, 16);
+    expect_held("its lock", kernelsun_lock_writer(area, n), line, 2, 16);
     expect_held("headers", kernelsun_headers_owner(area), line, 4, 11);
     if (line < 12) {
-        expect_held("the block, to open it", kernelsun_owner(area, p), line, 6, 9);
+        expect_held("the block, to open it", kernelsun_block_writer(area, p), line, 6, 9);
     } else {
-        expect_held("the block, to fill it", kernelsun_owner(area, p), line, 13, 15);
+        expect_held("the block, to fill it", kernelsun_block_writer(area, p), line, 13, 15);
     }
+    expect_equal("readers of its lock", kernelsun_lock_readers(area, n), 0);
+    expect_equal("readers of the block", kernelsun_block_readers(area, p), 0);
     expect_equal("header", kernelsun_header(area, p), line >= 7 ? n : NONE);
     expect_equal("map", kernelsun_map(area, n), line >= 10 ? p : NONE);
     expect_equal("content", kernelsun_content(area, p), line >= 14 ? 9 : 0);
@@ -570,6 +618,35 @@ static void check_write(void)
     expect_text("label at the end", kernelsun_thread_label(a.bytes, STEPPER), "-");
     expect_equal("header of its block", kernelsun_header(a.bytes, kernelsun_map(a.bytes, n)), n);
     expect_equal("content of its block", kernelsun_content(a.bytes, kernelsun_map(a.bytes, n)), 9);
+}
+
+/* A read beside another one, which stands at R4. `line` is the one that was done last. */
+static void expect_reading(const uint8_t *area, uint32_t n, uint32_t line)
+{
+    uint32_t p = 0, other = 1u << 0, itself = 1u << STEPPER;
+    expect_equal("its lock", kernelsun_lock_readers(area, n), line < 6 ? other | itself : other);
+    expect_equal("the block", kernelsun_block_readers(area, p),
+                 line >= 3 && line < 5 ? other | itself : other);
+    expect_equal("a writer of its lock", kernelsun_lock_writer(area, n), NONE);
+    expect_equal("a writer of the block", kernelsun_block_writer(area, p), NONE);
+}
+
+static void check_read(void)
+{
+    static area a;
+    const uint32_t n = 1;
+    call next = call_step(STEPPER);
+    about("a read of number 1, line by line, beside another");
+    make_fresh(&a, T, N, P, D);
+    whole(&a, 0, KERNELSUN_WRITE, n, 9);
+    expect_begins(&a, 0, KERNELSUN_READ, n, 0);
+    expect_steps(&a, 0, 3, KERNELSUN_WENT);
+    expect_begins(&a, STEPPER, KERNELSUN_READ, n, 0);
+    for (uint32_t line = 1; line <= 6; line++) {
+        expect_equal("number", kernelsun_number(through_door(&next, &a)),
+                     line < 6 ? KERNELSUN_WENT : KERNELSUN_FINISHED);
+        expect_reading(a.bytes, n, line);
+    }
 }
 
 static void check_unmap(void)
@@ -634,36 +711,48 @@ static void check_level(void)
     expect_equal("wear of 1", kernelsun_wear(a.bytes, 1), 1);
 }
 
-/* The thread is blocked, and by whom. */
-static void expect_waits(area *a, uint32_t thread, uint32_t lock, uint32_t holder)
+/* The thread is blocked, for a lock and by a set of threads. */
+static void expect_waits(area *a, uint32_t thread, uint32_t lock, uint32_t threads)
 {
     expect_refusal(a, call_step(thread), KERNELSUN_BLOCKED);
     expect_equal("waits for", kernelsun_next_lock(a->bytes, thread), lock);
-    expect_equal("held by", kernelsun_lock_holder(a->bytes, lock), holder);
+    expect_equal("held by", kernelsun_waits_for(a->bytes, thread), threads);
 }
 
 static void check_waiting(void)
 {
     static area a;
-    about("two readers of one number");
-    make_fresh(&a, T, N, P, D);
+    about("two readers of one number, a writer and a third reader");
+    make_fresh(&a, 4, N, P, D);
     expect_begins(&a, 0, KERNELSUN_READ, 2, 0);
-    expect_begins(&a, 1, KERNELSUN_READ, 2, 0);
+    expect_begins(&a, 2, KERNELSUN_READ, 2, 0);
+    expect_begins(&a, 1, KERNELSUN_WRITE, 2, 7);
+    expect_begins(&a, 3, KERNELSUN_READ, 2, 0);
+    expect_steps(&a, 2, 1, KERNELSUN_WENT);
+    expect_equal("a reader beside a reader waits", kernelsun_waits_for(a.bytes, 0), 0);
+    expect_steps(&a, 0, 1, KERNELSUN_WENT);
     expect_steps(&a, 1, 1, KERNELSUN_WENT);
-    expect_waits(&a, 0, 2, 1);
+    expect_waits(&a, 1, 2, 1 | 4);
+    expect_steps(&a, 0, 1, KERNELSUN_WENT);
+    expect_steps(&a, 0, 1, KERNELSUN_FINISHED);
+    expect_waits(&a, 1, 2, 4);
+    expect_steps(&a, 2, 1, KERNELSUN_WENT);
+    expect_steps(&a, 2, 1, KERNELSUN_FINISHED);
+    expect_steps(&a, 1, 1, KERNELSUN_WENT);
+    expect_waits(&a, 3, 2, 2);
     about("two writers");
     make_fresh(&a, T, N, P, D);
     expect_begins(&a, 0, KERNELSUN_WRITE, 1, 70);
     expect_begins(&a, 1, KERNELSUN_WRITE, 2, 90);
     expect_steps(&a, 0, 1, KERNELSUN_WENT);
-    expect_waits(&a, 1, KERNELSUN_LOCK_H, 0);
+    expect_waits(&a, 1, KERNELSUN_LOCK_H, 1);
     about("a leveller at L6 and a reader");
     make_worn(&a);
     expect_begins(&a, 0, KERNELSUN_READ, 1, 0);
     expect_begins(&a, 1, KERNELSUN_LEVEL, 0, 0);
     expect_steps(&a, 0, 1, KERNELSUN_WENT);
     expect_steps(&a, 1, 5, KERNELSUN_WENT);
-    expect_waits(&a, 1, 1, 0);
+    expect_waits(&a, 1, 1, 1);
 }
 
 static void check_reading(void)
@@ -673,6 +762,7 @@ static void check_reading(void)
     check_words();
     check_whole();
     check_named();
+    check_bits();
     check_rows();
     check_records();
     check_sizes_viewable();
@@ -688,8 +778,9 @@ int main(void)
     check_version();
     check_lines();
     check_no_lines();
-    check_lock_holders();
+    check_no_holders();
     check_write();
+    check_read();
     check_unmap();
     check_most_wear();
     check_level();

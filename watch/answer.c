@@ -32,26 +32,35 @@ static void add_limits(const uint32_t size[4])
     add_limit("D", size[3], KERNELSUN_DISTANCE_LEAST, KERNELSUN_DISTANCE_MOST);
 }
 
-/* Behind who waits: for which lock, and where the one stands that holds it. */
-static void add_wait(const uint8_t *area, uint32_t lock, uint32_t holder)
+/* Behind who waits: for which lock, and where those stand that have it. Gives the last of them. */
+static uint32_t add_wait(const uint8_t *area, uint32_t waiting)
 {
+    uint32_t lock = kernelsun_next_lock(area, waiting), last = waiting;
+    uint32_t threads = kernelsun_waits_for(area, waiting);
+    const char *gap = kernelsun_lock_readers(area, lock) != 0 ? ", read by" : ", held by";
     if (lock == KERNELSUN_LOCK_H) {
         add(" waits for H");
     } else {
         add(" waits for lock %u", (unsigned)lock);
     }
-    add(", held by t%u at %s", (unsigned)holder, kernelsun_thread_label(area, holder));
+    for (uint32_t t = 0; t < kernelsun_t(area); t++) {
+        if ((threads & kernelsun_bit(t)) != 0) {
+            add("%s t%u at %s", gap, (unsigned)t, kernelsun_thread_label(area, t));
+            gap = ",";
+            last = t;
+        }
+    }
+    return last;
 }
 
-/* Whom a blocked thread waits for, and whom that one does. Where only calls have changed the area,
-   no chain comes back to a thread, so none is longer than there are threads. */
+/* Whom a blocked thread waits for, and whom that one does: a writer may wait in its turn, a reader
+   takes no other lock. Where only calls have changed the area, no chain comes back to a thread, so
+   none is longer than there are threads. */
 static void add_waits(const uint8_t *area, uint32_t thread)
 {
     uint32_t waiting = thread;
     for (uint32_t hop = 0; hop < kernelsun_t(area); hop++) {
-        uint32_t lock = kernelsun_next_lock(area, waiting);
-        uint32_t holder = kernelsun_lock_holder(area, lock);
-        if (holder == KERNELSUN_NONE) {
+        if (kernelsun_waits_for(area, waiting) == 0) {
             return;
         }
         if (hop == 0) {
@@ -59,8 +68,7 @@ static void add_waits(const uint8_t *area, uint32_t thread)
         } else {
             add(", which");
         }
-        add_wait(area, lock, holder);
-        waiting = holder;
+        waiting = add_wait(area, waiting);
     }
 }
 
@@ -188,14 +196,23 @@ static void add_lock_change(const char *gained, const char *lost, uint32_t was, 
     }
 }
 
+/* A lock or an owner by its words: the thread that was stepped came to it, to write or to read, or
+   left it. Others stay as they were, so that the word grows with the one that comes. */
+static void add_holder_change(const char *gained, const char *lost, unsigned index, uint32_t was,
+                              uint32_t is)
+{
+    if (is < was) {
+        add(", %s %u", lost, index);
+    } else if (is > was) {
+        add(", %s %u%s", gained, index, is < KERNELSUN_READER_SETS ? " to read" : "");
+    }
+}
+
 static void add_number_changes(const uint8_t *before, const uint8_t *after, unsigned n)
 {
-    uint32_t was = kernelsun_lock(before, n), is = kernelsun_lock(after, n);
-    if (was != is) {
-        add(", %s lock %u", is == KERNELSUN_NONE ? "releases" : "takes", n);
-    }
-    was = kernelsun_map(before, n);
-    is = kernelsun_map(after, n);
+    uint32_t was = kernelsun_map(before, n), is = kernelsun_map(after, n);
+    add_holder_change("takes lock", "releases lock", n, kernelsun_of_lock(before, n),
+                      kernelsun_of_lock(after, n));
     if (was != is && is == KERNELSUN_NONE) {
         add(", unmaps %u", n);
     } else if (was != is) {
@@ -205,12 +222,10 @@ static void add_number_changes(const uint8_t *before, const uint8_t *after, unsi
 
 static void add_block_changes(const uint8_t *before, const uint8_t *after, unsigned p)
 {
-    uint32_t was = kernelsun_owner(before, p), is = kernelsun_owner(after, p);
-    if (was != is) {
-        add(", %s block %u", is == KERNELSUN_NONE ? "lets go" : "owns", p);
-    }
-    was = kernelsun_header(before, p);
-    is = kernelsun_header(after, p);
+    uint32_t was = kernelsun_header(before, p), is = kernelsun_header(after, p);
+    add_holder_change("owns block", "lets go block", p,
+                      kernelsun_of_block(before, p, KERNELSUN_BLOCK_OWNER),
+                      kernelsun_of_block(after, p, KERNELSUN_BLOCK_OWNER));
     if (was != is) {
         add(", header of block %u", p);
         add_whether("names", is, "is free");

@@ -31,8 +31,9 @@ static const char state[] =
     "    headers t0        thread 0 owns the headers, - for nobody\n"
     "    t0:W14 t1:idle    the line that each thread's next step does\n"
     "    waits t1:H t2:0   thread 1 waits for the header lock, thread 2 for that of block 0\n"
-    "    locks 0:t0        thread 0 holds the lock of logical block 0\n"
-    "    owners 2:t0       thread 0 owns physical block 2\n"
+    "    locks 0:t0        thread 0 holds the lock of logical block 0 to write; where threads\n"
+    "                      hold it to read, they are listed: 0:read by t1 t3\n"
+    "    owners 2:t0       thread 0 owns physical block 2 to write; readers are listed alike\n"
     "    map 0>2           logical block 0 is mapped to physical block 2\n"
     "    header 2:0        the header of physical block 2 names 0, and the map doesn't say so\n"
     "    wear 2:5          physical block 2 has wear 5\n";

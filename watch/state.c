@@ -73,7 +73,7 @@ static void show_waits(const uint8_t *area)
     size_t name = begin_entries("waits");
     for (uint32_t t = 0; t < kernelsun_t(area); t++) {
         uint32_t lock = kernelsun_next_lock(area, t);
-        if (kernelsun_lock_holder(area, lock) == KERNELSUN_NONE) {
+        if (kernelsun_waits_for(area, t) == 0) {
             continue;
         }
         if (lock == KERNELSUN_LOCK_H) {
@@ -85,14 +85,38 @@ static void show_waits(const uint8_t *area)
     end_entries(name, 0);
 }
 
-/* Locks that are held, or blocks that are owned, and by whom. */
-static void show_held(const char *what, const uint8_t *area, uint32_t count,
-                      uint32_t (*holder)(const uint8_t *area, uint32_t index))
+/* Those beside one another are drawn together. */
+static void add_set(uint32_t threads)
+{
+    uint32_t run;
+    for (uint32_t t = 0; kernelsun_bit(t) != 0; t += run) {
+        for (run = 0; (threads & kernelsun_bit(t + run)) != 0;) {
+            run++;
+        }
+        if (run >= RUN_LEAST) {
+            add(" t%u-t%u", (unsigned)t, (unsigned)(t + run - 1));
+            continue;
+        }
+        if (run > 0) {
+            add(" t%u", (unsigned)t);
+        }
+        run = 1;
+    }
+}
+
+/* Locks that are held, or blocks that are owned, by a writer or by readers. */
+typedef uint32_t holders(const uint8_t *area, uint32_t index);
+
+static void show_held(const char *what, const uint8_t *area, uint32_t count, holders *writer,
+                      holders *readers)
 {
     size_t name = begin_entries(what);
     for (uint32_t i = 0; i < count; i++) {
-        if (holder(area, i) != KERNELSUN_NONE) {
-            add(" %u:t%u", (unsigned)i, (unsigned)holder(area, i));
+        if (writer(area, i) != KERNELSUN_NONE) {
+            add(" %u:t%u", (unsigned)i, (unsigned)writer(area, i));
+        } else if (readers(area, i) != 0) {
+            add(" %u:read by", (unsigned)i);
+            add_set(readers(area, i));
         }
     }
     end_entries(name, 0);
@@ -166,8 +190,8 @@ void show_state(const uint8_t *area)
     show_holder("headers", kernelsun_headers_owner(area));
     show_threads(area);
     show_waits(area);
-    show_held("locks", area, kernelsun_n(area), kernelsun_lock);
-    show_held("owners", area, kernelsun_p(area), kernelsun_owner);
+    show_held("locks", area, kernelsun_n(area), kernelsun_lock_writer, kernelsun_lock_readers);
+    show_held("owners", area, kernelsun_p(area), kernelsun_block_writer, kernelsun_block_readers);
     show_map(area);
     show_headers(area);
     show_worn(area);

@@ -56,6 +56,13 @@ static void wear_all(uint32_t wear)
     }
 }
 
+/* The owner of block 0, by its word. */
+static void own_first(uint32_t word)
+{
+    kernelsun_sizes sizes = kernelsun_sizes_of(area);
+    put_word(area, kernelsun_at_block(&sizes, 0, KERNELSUN_BLOCK_OWNER), word);
+}
+
 static void begins(uint32_t op, uint32_t n, uint32_t c)
 {
     require(kernelsun_number(begin(area, len, 0, op, n, c)) == KERNELSUN_WENT, "begin");
@@ -85,6 +92,22 @@ static void grow(void)
     for (int i = 0; i < 9; i++) {
         require(kernelsun_number(step(area, len, 0)) == KERNELSUN_WENT, "step");
     }
+}
+
+/* Each of 16 threads reads number 0, and its block. */
+static void read_by_all(void)
+{
+    make(16, 1, 2, 1);
+    does(KERNELSUN_WRITE, 0, 7);
+    does(KERNELSUN_WRITE, 0, 8);
+    for (uint32_t thread = 0; thread < 16; thread++) {
+        uint64_t r = begin(area, len, thread, KERNELSUN_READ, 0, 0);
+        for (int line = 1; line <= 3 && kernelsun_number(r) == KERNELSUN_WENT; line++) {
+            r = step(area, len, thread);
+        }
+        require(kernelsun_number(r) == KERNELSUN_WENT, "a read beside others");
+    }
+    require(kernelsun_block_readers(area, 0) == 65535, "all read");
 }
 
 /* Block p has the content of number n. */
@@ -128,6 +151,18 @@ int main(int count, char **words)
     save("long", len + 1);
     put_word(area, KERNELSUN_AT_LOCK, 2);
     save("lock_of_nobody", len);
+
+    make(1, 1, 2, 1);
+    own_first(kernelsun_writing(0));
+    save("written", len);
+    own_first(kernelsun_writing(1));
+    save("writer_of_nobody", len);
+    own_first(kernelsun_bit(1));
+    save("reader_of_nobody", len);
+    own_first(kernelsun_writing(0) + kernelsun_bit(0));
+    save("read_and_written", len);
+    read_by_all();
+    save("read_by_all", len);
 
     make(16, 256, 512, 1);
     save("largest", len);

@@ -4,13 +4,16 @@
 ghost use mathlib.Core.Path.{_≡_};
 ghost use mathlib.Core.Bool.{cond};
 ghost use Prim.Native.Nat.{_+_, _<_, _≤_};
-ghost use Rattle.meaning.specs.Limits.{mostWord};
-ghost use Rattle.meaning.specs.Holding.{named as namedOf};
+ghost use Rattle.meaning.specs.Limits.{mostThreads, mostWord};
+ghost use Rattle.meaning.specs.Holding.{mark as markOf, member as memberOf, held as heldOf, admits as admitsOf, named as namedOf};
 ghost use Rattle.meaning.specs.Programs.{actAt, lastLine};
 ghost use Rattle.meaning.specs.Step.{goto as gotoOf, onward as onwardOf, setN, setC, setP, setQ, setH, block as blockOf, effect as effectOf, nothing as nothingOf, onLock, onOwner, onMap, onLocks, onHeader, onContent, onWear, onFreed, onOwn, need as needOf, take as takeOf, next as nextOf, branch as branchOf, worn as wornOf, moved as movedOf, answer as answerOf};
 use meaning::Act;
 use meaning::Answer;
 use meaning::Effect;
+use meaning::Kind;
+use meaning::Pass;
+use meaning::Pass::Leave;
 use meaning::Reg;
 use meaning::Thread;
 use meaning::Update;
@@ -28,41 +31,41 @@ const MOST_WORD: u32 = 4294967295;
 
 const WRITING: [Act; 16] = [
     Act::TakeH, // W1
-    Act::TakeN, // W2
+    Act::TakeN(Kind::Writer), // W2
     Act::GoIfMapped(12), // W3
     Act::OwnHeaders, // W4
     Act::PickFree, // W5
-    Act::Own(Reg::P), // W6
+    Act::Own(Kind::Writer, Reg::P), // W6
     Act::WriteHeaderN, // W7
     Act::EmptyContent, // W8
-    Act::LetGo(Reg::P), // W9
+    Act::LetGo(Kind::Writer, Reg::P), // W9
     Act::MapTo(Reg::P), // W10
     Act::LetGoHeaders, // W11
     Act::ReleaseH, // W12
-    Act::Own(Reg::P), // W13
+    Act::Own(Kind::Writer, Reg::P), // W13
     Act::WriteContent(Reg::P), // W14
-    Act::LetGo(Reg::P), // W15
-    Act::FinishN(Answer::Zero), // W16
+    Act::LetGo(Kind::Writer, Reg::P), // W15
+    Act::FinishN(Kind::Writer, Answer::Zero), // W16
 ];
 
 const READING: [Act; 6] = [
-    Act::TakeN, // R1
+    Act::TakeN(Kind::Reader), // R1
     Act::EmptyIfUnmapped(6), // R2
-    Act::Own(Reg::P), // R3
+    Act::Own(Kind::Reader, Reg::P), // R3
     Act::ReadContent, // R4
-    Act::LetGo(Reg::P), // R5
-    Act::FinishN(Answer::C), // R6
+    Act::LetGo(Kind::Reader, Reg::P), // R5
+    Act::FinishN(Kind::Reader, Answer::C), // R6
 ];
 
 const UNMAPPING: [Act; 11] = [
     Act::TakeH, // U1
-    Act::TakeN, // U2
+    Act::TakeN(Kind::Writer), // U2
     Act::GoIfUnmapped(10), // U3
     Act::OwnHeaders, // U4
-    Act::Own(Reg::P), // U5
+    Act::Own(Kind::Writer, Reg::P), // U5
     Act::Unmap, // U6
     Act::FreeHeader, // U7
-    Act::LetGo(Reg::P), // U8
+    Act::LetGo(Kind::Writer, Reg::P), // U8
     Act::LetGoHeaders, // U9
     Act::ReleaseN, // U10
     Act::FinishH(Answer::Zero), // U11
@@ -74,16 +77,16 @@ const LEVELLING: [Act; 18] = [
     Act::Choose, // L3
     Act::ReadHeader, // L4
     Act::GoIfFree(17), // L5
-    Act::TakeN, // L6
-    Act::Own(Reg::P), // L7
+    Act::TakeN(Kind::Writer), // L6
+    Act::Own(Kind::Writer, Reg::P), // L7
     Act::ReadContent, // L8
-    Act::Own(Reg::Q), // L9
+    Act::Own(Kind::Writer, Reg::Q), // L9
     Act::WriteHeaderH, // L10
     Act::WriteContent(Reg::Q), // L11
     Act::MapTo(Reg::Q), // L12
     Act::FreeHeader, // L13
-    Act::LetGo(Reg::Q), // L14
-    Act::LetGo(Reg::P), // L15
+    Act::LetGo(Kind::Writer, Reg::Q), // L14
+    Act::LetGo(Kind::Writer, Reg::P), // L15
     Act::ReleaseN, // L16
     Act::LetGoHeaders, // L17
     Act::FinishH(Answer::Moved), // L18
@@ -170,17 +173,63 @@ pub fn block(b: Reg, r: Thread) -> u32
     }
 }
 
+// ---- readers or a writer: the lock of a number, the owner of a block
+
+// Such a word is a set of 16 bits, a bit for each reading thread, and this times the word of the writing one.
+const SETS: u32 = 65536;
+
+// What thread t adds to the word.
+pub fn mark(k: Kind, t: u32) -> u32
+    requires { ⌜ t < mostThreads ⌝ }
+    ensures { λ x. ⌜ x ≡ markOf k t ⌝ }
+{
+    match k {
+        Kind::Reader => 1 << t,
+        Kind::Writer => SETS * (t + 1),
+    }
+}
+
+// Bit t is set.
+fn member(t: u32, w: u32) -> bool
+    requires { ⌜ t < mostThreads ⌝ }
+    ensures { λ x. ⌜ x ≡ memberOf t w ⌝ }
+{
+    (w >> t) % 2 == 1
+}
+
+// Thread t has its place in the set, or is the writer.
+pub fn held(k: Kind, t: u32, w: u32) -> bool
+    requires { ⌜ t < mostThreads ⌝ }
+    ensures { λ x. ⌜ x ≡ heldOf k t w ⌝ }
+{
+    match k {
+        Kind::Reader => (w < SETS) & member(t, w),
+        Kind::Writer => w == mark(Kind::Writer, t),
+    }
+}
+
+// Thread t may take it.
+pub fn admits(k: Kind, t: u32, w: u32) -> bool
+    requires { ⌜ t < mostThreads ⌝ }
+    ensures { λ x. ⌜ x ≡ admitsOf k t w ⌝ }
+{
+    match k {
+        Kind::Reader => (w < SETS) & !member(t, w),
+        Kind::Writer => w == 0,
+    }
+}
+
 // ---- effects
 
 fn effect(
     lock: Word,
     owner: Word,
     map: Update,
-    locks: Update,
+    locks: Pass,
     header: Update,
     content: Update,
     wear: Update,
-    own: Update,
+    own: Pass,
 ) -> Effect
     ensures { λ e. ⌜ e ≡ effectOf lock owner map locks header content wear own ⌝ }
 {
@@ -199,61 +248,61 @@ fn effect(
 pub fn nothing() -> Effect
     ensures { λ e. ⌜ e ≡ nothingOf ⌝ }
 {
-    effect(Stay, Stay, Keep, Keep, Keep, Keep, Keep, Keep)
+    effect(Stay, Stay, Keep, Leave, Keep, Keep, Keep, Leave)
 }
 
 pub fn on_lock(w: u32) -> Effect
     ensures { λ e. ⌜ e ≡ onLock w ⌝ }
 {
-    effect(Become(w), Stay, Keep, Keep, Keep, Keep, Keep, Keep)
+    effect(Become(w), Stay, Keep, Leave, Keep, Keep, Keep, Leave)
 }
 
 pub fn on_owner(w: u32) -> Effect
     ensures { λ e. ⌜ e ≡ onOwner w ⌝ }
 {
-    effect(Stay, Become(w), Keep, Keep, Keep, Keep, Keep, Keep)
+    effect(Stay, Become(w), Keep, Leave, Keep, Keep, Keep, Leave)
 }
 
 pub fn on_map(n: u32, w: u32) -> Effect
     ensures { λ e. ⌜ e ≡ onMap n w ⌝ }
 {
-    effect(Stay, Stay, Put(n, w), Keep, Keep, Keep, Keep, Keep)
+    effect(Stay, Stay, Put(n, w), Leave, Keep, Keep, Keep, Leave)
 }
 
-pub fn on_locks(n: u32, w: u32) -> Effect
-    ensures { λ e. ⌜ e ≡ onLocks n w ⌝ }
+pub fn on_locks(c: Pass) -> Effect
+    ensures { λ e. ⌜ e ≡ onLocks c ⌝ }
 {
-    effect(Stay, Stay, Keep, Put(n, w), Keep, Keep, Keep, Keep)
+    effect(Stay, Stay, Keep, c, Keep, Keep, Keep, Leave)
 }
 
 pub fn on_header(m: u32, w: u32) -> Effect
     ensures { λ e. ⌜ e ≡ onHeader m w ⌝ }
 {
-    effect(Stay, Stay, Keep, Keep, Put(m, w), Keep, Keep, Keep)
+    effect(Stay, Stay, Keep, Leave, Put(m, w), Keep, Keep, Leave)
 }
 
 pub fn on_content(m: u32, w: u32) -> Effect
     ensures { λ e. ⌜ e ≡ onContent m w ⌝ }
 {
-    effect(Stay, Stay, Keep, Keep, Keep, Put(m, w), Keep, Keep)
+    effect(Stay, Stay, Keep, Leave, Keep, Put(m, w), Keep, Leave)
 }
 
 pub fn on_wear(m: u32, w: u32) -> Effect
     ensures { λ e. ⌜ e ≡ onWear m w ⌝ }
 {
-    effect(Stay, Stay, Keep, Keep, Keep, Keep, Put(m, w), Keep)
+    effect(Stay, Stay, Keep, Leave, Keep, Keep, Put(m, w), Leave)
 }
 
 pub fn on_freed(m: u32, w: u32) -> Effect
     ensures { λ e. ⌜ e ≡ onFreed m w ⌝ }
 {
-    effect(Stay, Stay, Keep, Keep, Put(m, 0), Keep, Put(m, w), Keep)
+    effect(Stay, Stay, Keep, Leave, Put(m, 0), Keep, Put(m, w), Leave)
 }
 
-pub fn on_own(m: u32, w: u32) -> Effect
-    ensures { λ e. ⌜ e ≡ onOwn m w ⌝ }
+pub fn on_own(c: Pass) -> Effect
+    ensures { λ e. ⌜ e ≡ onOwn c ⌝ }
 {
-    effect(Stay, Stay, Keep, Keep, Keep, Keep, Keep, Put(m, w))
+    effect(Stay, Stay, Keep, Leave, Keep, Keep, Keep, c)
 }
 
 // ---- verdicts
@@ -270,10 +319,10 @@ pub fn need(met: bool, v: Verdict) -> Verdict
     either(met, v, Verdict::Fault)
 }
 
-pub fn take(w: u32, v: Verdict) -> Verdict
-    ensures { λ x. ⌜ x ≡ takeOf w v ⌝ }
+pub fn take(lets: bool, v: Verdict) -> Verdict
+    ensures { λ x. ⌜ x ≡ takeOf lets v ⌝ }
 {
-    either(w == 0, v, Verdict::Blocked)
+    either(lets, v, Verdict::Blocked)
 }
 
 pub fn next(r: Thread, e: Effect) -> Verdict

@@ -79,7 +79,7 @@ opens {a} e n is low =
 pub record Judged (a : List ℕ) (k : ℕ) (z : Sizes) (v : Verdict) : Type 0 where
   pub opened : Opened a k z
   pub telling : callArea a (step k) ≡ reply encode a (told (decode a) k v)
-  pub inside : VerdictInside (z .n) (z .p) v
+  pub inside : VerdictInside (decode a) (z .n) (z .p) v
 
 -- ---- the tests as the code has them
 
@@ -198,9 +198,9 @@ module _ {a : List ℕ} {k : ℕ} {z : Sizes} (o : Opened a k z) {r : Thread} (i
               (ap (λ x. reply encode a (told (decode a) k x))
               (sym (e ∙ ap (λ x. perform (actAt (x .op) (x .line)) (decode a) k x) is)));
           inside =
-              subst (VerdictInside (z .n) (z .p)) (sym e)
-              (subst (λ (n : ℕ). VerdictInside n (z .p) act) (o .live .numbers)
-              (subst (λ (p : ℕ). VerdictInside (word a nAt) p act) (o .live .blocks)
+              subst (VerdictInside (decode a) (z .n) (z .p)) (sym e)
+              (subst (λ (n : ℕ). VerdictInside (decode a) n (z .p) act) (o .live .numbers)
+              (subst (λ (p : ℕ). VerdictInside (decode a) (word a nAt) p act) (o .live .blocks)
               (perform-inside (decode a) k r (near-bounded (decode a) (facts a (o .well)) k low r works) (actAt (r .op) (r .line)))));
         }
 
@@ -209,11 +209,11 @@ module _ {a : List ℕ} {k : ℕ} {z : Sizes} {v : Verdict} (j : Judged a k z v)
   pub step-told : {x : Verdict} → v ≡ x → callArea a (step k) ≡ reply encode a (told (decode a) k x)
   step-told q = j .telling ∙ ap (λ x. reply encode a (told (decode a) k x)) q
 
-  pub settle-go : {x : Thread} {e : Effect} → v ≡ Go x e → Live a (z .t) (z .n) (z .p) × (k < z .t) × EffectInside (z .n) (z .p) e
-  settle-go q = (j .opened .live, j .opened .below, subst (VerdictInside (z .n) (z .p)) q (j .inside))
+  pub settle-go : {x : Thread} {e : Effect} → v ≡ Go x e → Live a (z .t) (z .n) (z .p) × (k < z .t) × EffectInside (decode a) (z .n) (z .p) e
+  settle-go q = (j .opened .live, j .opened .below, subst (VerdictInside (decode a) (z .n) (z .p)) q (j .inside))
 
-  pub settle-done : {x : ℕ} {e : Effect} → v ≡ Done x e → Live a (z .t) (z .n) (z .p) × (k < z .t) × EffectInside (z .n) (z .p) e
-  settle-done q = (j .opened .live, j .opened .below, subst (VerdictInside (z .n) (z .p)) q (j .inside))
+  pub settle-done : {x : ℕ} {e : Effect} → v ≡ Done x e → Live a (z .t) (z .n) (z .p) × (k < z .t) × EffectInside (decode a) (z .n) (z .p) e
+  settle-done q = (j .opened .live, j .opened .below, subst (VerdictInside (decode a) (z .n) (z .p)) q (j .inside))
 
 -- ---- what the machine leaves is what its store encodes to
 

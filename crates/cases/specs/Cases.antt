@@ -4,7 +4,7 @@ use mathlib.Core.Path.{_≡_, refl}
 use mathlib.Core.List.{List, [], _∷_, map}
 use Prim.Native.Nat.{ℕ, zero, suc, _-_}
 use lib.ListN.{replicate}
-use Rattle.meaning.specs.Numbers.{WENT, FINISHED, BLOCKED, IDLE, LIMITS}
+use Rattle.meaning.specs.Numbers.{WENT, FINISHED, IDLE, LIMITS}
 use Rattle.meaning.specs.Programs.{WRITE, READ, UNMAP, LEVEL}
 use Rattle.meaning.specs.Call.{Reply, Entry, begin, step}
 use Rattle.meaning.specs.Schedule.{run, replies}
@@ -131,11 +131,11 @@ starred-hold = refl
 
 unfoldable pub samples : List Case
 samples =
-    accepted 2 1 2 1  -- 01, "The script program", the example
+    accepted 2 1 2 1  -- 01, "The script program", the example; by 02, §3, the second reader isn't blocked
     (record { call = begin 0 READ 0 9; number = WENT; value = 0 }
     ∷ record { call = begin 1 READ 0 0; number = WENT; value = 0 }
     ∷ record { call = step 0; number = WENT; value = 0 }
-    ∷ record { call = step 1; number = BLOCKED; value = 0 }
+    ∷ record { call = step 1; number = WENT; value = 0 }
     ∷ record { call = step 0; number = WENT; value = 0 }
     ∷ record { call = step 0; number = FINISHED; value = 0 }
     ∷ record { call = step 1; number = WENT; value = 0 }

@@ -26,7 +26,7 @@ abbrev pub given : List (Reply (List ℕ))
 given =
     formatArea blank 2 1 2 1  -- 0 WENT
     ∷ stepArea (after (begin 0 2 0 0 ∷ steps 2 0 [])) 0  -- 1 FINISHED: the last step of a read on fresh
-    ∷ stepArea (after (begin 0 2 0 0 ∷ begin 1 2 0 0 ∷ step 0 ∷ [])) 1  -- 2 BLOCKED: thread 0 has taken the number's lock
+    ∷ stepArea (after (begin 0 1 0 0 ∷ begin 1 1 0 0 ∷ step 0 ∷ [])) 1  -- 2 BLOCKED: thread 0 has taken H
     ∷ stepArea blank 0  -- 10 SHAPE: T is no size
     ∷ beginArea (after []) 2 2 0 0  -- 11 THREAD: thread 2 of 2
     ∷ beginArea (after (begin 0 2 0 0 ∷ [])) 0 2 0 0  -- 12 BUSY: thread 0 has begun
@@ -48,7 +48,7 @@ together r = packed (r .number) (r .value)
 
 -- BLOCKED; and FINISHED with 7, a read of what was written
 pub packed-given :
-    together (stepArea (after (begin 0 2 0 0 ∷ begin 1 2 0 0 ∷ step 0 ∷ [])) 1)
+    together (stepArea (after (begin 0 1 0 0 ∷ begin 1 1 0 0 ∷ step 0 ∷ [])) 1)
     ∷ together (stepArea (after (begin 0 1 0 7 ∷ steps 16 0 (begin 0 2 0 0 ∷ steps 5 0 []))) 0)
     ∷ []
     ≡ 8589934592 ∷ 4294967303 ∷ []

@@ -2,3 +2,4 @@
 pub mod Cases
 pub mod Given
 pub mod Rewriting
+pub mod Listening

@@ -1,14 +1,16 @@
 -- DEMAND 3, first half, over areas of bytes: two threads of an area grown from fresh that can both step, and whose next lines don't take the
--- same lock, may step in either order. Each gives the same number and value, and the bytes at the end are the same.
--- Where it is met in the middle of two operations, and that it isn't so for the same lock, is computed in Reached.
+-- same lock unless both take it for reading, may step in either order. Each gives the same number and value, and the bytes at the end are the same.
+-- So two threads may that are about to take a number's lock for reading. Where it is met in the middle of two operations, and that it isn't so for
+-- the same lock, is computed in Reached.
 -- Assumes nothing.
 use mathlib.Core.Path.{_≡_, refl, sym, _∙_, subst}
-use mathlib.Core.Bool.{true, false, _&&_, _||_}
+use mathlib.Core.Bool.{true, false, not, _&&_, _||_}
 use mathlib.Core.List.{List}
 use Prim.Native.Nat.{ℕ, zero, suc, _≤_}
 use native.Mathlib.Omega.{arith}
-use lib.Dec.{ltb}
-use borrow.Author.Tests.{ltb-true, le-leb, eqb-true}
+use lib.Dec.{eqb, ltb}
+use borrow.Author.Tests.{not-true, ltb-true, le-leb, eqb-true}
+use Rattle.meaning.specs.declared.Kind.the-variants.{Reader}
 use Rattle.meaning.specs.declared.Act.the-variants.{TakeH, TakeN}
 use Rattle.meaning.specs.declared.Thread.{Thread}
 use Rattle.meaning.specs.Numbers.{FINISHED}
@@ -16,8 +18,10 @@ use Rattle.meaning.specs.Limits.{mostWord, within}
 use Rattle.meaning.specs.Store.{Store}
 use Rattle.meaning.specs.Programs.{actAt}
 use Rattle.meaning.specs.Call.{step, callStore}
+use Rattle.meaning.specs.Schedule.{nextAct}
 use Rattle.meaning.proofs.Base.Words.{either-way, and-left, and-right, or-way, within-true, clash}
-use Rattle.meaning.proofs.Invariant.{takesH, takesN, takesLock}
+use Rattle.meaning.proofs.Base.Sets.{bothRead}
+use Rattle.meaning.proofs.Invariant.{takesH, takesN, kind}
 use Rattle.meaning.proofs.Invariant.Keeping.{standing}
 use Rattle.meaning.proofs.Progress.{CanStep as CanStepStore}
 use Rattle.meaning.proofs.EitherOrder.{sameTake, either-order}
@@ -43,7 +47,7 @@ takesH-act (suc (suc (suc zero))) line x = rw (one-line 1 line x)
 takesH-act (suc (suc (suc (suc zero)))) line x = rw (one-line 1 line x)
 takesH-act (suc (suc (suc (suc (suc op))))) line x = clash x refl
 
-takesN-act : (op line : ℕ) → takesN (standing op line) ≡ true → actAt op line ≡ TakeN
+takesN-act : (op line : ℕ) → takesN (standing op line) ≡ true → actAt op line ≡ TakeN (kind (standing op line))
 takesN-act zero line x = clash x refl
 takesN-act (suc zero) line x = rw (one-line 2 line x)
 takesN-act (suc (suc zero)) line x = rw (one-line 1 line x)
@@ -54,13 +58,16 @@ takesN-act (suc (suc (suc (suc (suc op))))) line x = clash x refl
 other-locks : (r q : Thread) → (SameLock r q → ⊥) → sameTake r q ≡ false
 other-locks r q apart =
     either-way (sameTake r q)
-    (λ x. absurd (apart (or-way (takesH r && takesH q) (takesN q && takesLock r (q .n)) x
+    (λ x. absurd (apart (or-way (takesH r && takesH q) (takesN q && takesN r && eqb (r .n) (q .n) && not (bothRead (kind r) (kind q))) x
     (λ y. both-H (takesH-act (r .op) (r .line) (and-left (takesH r) _ y))
     (takesH-act (q .op) (q .line) (and-right (takesH r) (takesH q) y)))
     (λ y.
-    let l = and-right (takesN q) (takesLock r (q .n)) y in
-    both-N (takesN-act (r .op) (r .line) (and-left (takesN r) _ l)) (takesN-act (q .op) (q .line) (and-left (takesN q) _ y))
-    (eqb-true (r .n) (q .n) (and-right (takesN r) _ l))))))
+    let one = and-left (takesN q && takesN r && eqb (r .n) (q .n)) _ y in
+    let both = and-left (takesN q && takesN r) _ one in
+    let other = not-true (bothRead (kind r) (kind q)) (and-right (takesN q && takesN r && eqb (r .n) (q .n)) _ y) in
+    both-N (kind r) (kind q) (takesN-act (r .op) (r .line) (and-right (takesN q) _ both))
+    (takesN-act (q .op) (q .line) (and-left (takesN q) _ both)) (eqb-true (r .n) (q .n) (and-right (takesN q && takesN r) _ one))
+    (λ z. clash (λ i. bothRead (z .0 i) (z .1 i)) other)))))
     (λ x. x)
 
 -- ---- either order
@@ -107,3 +114,18 @@ grown-either-order a grown t u apart ct cu others =
           decode-injective (stepArea (stepArea a t .after) u .after) (stepArea (stepArea a u .after) t .after) (tu .good)
           (ut .good) (tu .decoded ∙ s .after ∙ sym (ut .decoded));
     }
+
+-- ---- two readers
+
+-- two threads about to take a number's lock for reading are none of the exception
+readers-take : (r q : Thread) → nextAct r ≡ TakeN Reader → nextAct q ≡ TakeN Reader → SameLock r q → ⊥
+readers-take r q e e′ (both-H h _) = let z : _≡_ {A = ℕ} 0 1 = cc in omega arith
+readers-take r q e e′ (both-N κ κ′ h h′ _ x) =
+    let reads : κ ≡ Reader = cc in
+    let reads′ : κ′ ≡ Reader = cc in
+    x (reads, reads′)
+
+pub grown-readers-pass : (a : List ℕ) → Grown a → (t u : ℕ) → (t ≡ u → ⊥) → CanStep a t → CanStep a u →
+    nextAct (decode a .thread t) ≡ TakeN Reader → nextAct (decode a .thread u) ≡ TakeN Reader → EitherOrder a t u
+grown-readers-pass a grown t u apart ct cu e e′ =
+    grown-either-order a grown t u apart ct cu (readers-take (decode a .thread t) (decode a .thread u) e e′)

@@ -13,13 +13,15 @@ use Rattle.meaning.specs.declared.Word.{Word}
 use Rattle.meaning.specs.declared.Word.the-variants.{Stay, Become}
 use Rattle.meaning.specs.declared.Update.{Update}
 use Rattle.meaning.specs.declared.Update.the-variants.{Keep, Put}
+use Rattle.meaning.specs.declared.Pass.{Pass}
+use Rattle.meaning.specs.declared.Pass.the-variants.{Leave, Plus, Minus}
 use Rattle.meaning.specs.declared.Effect.{Effect}
 use Rattle.meaning.specs.declared.Verdict.{Verdict}
 use Rattle.meaning.specs.declared.Verdict.the-variants.{Blocked, Fault, Go, Done}
 use Rattle.meaning.specs.Limits.{mostWord, within}
 use Rattle.meaning.specs.Store.{Store, idle}
 use Rattle.meaning.specs.Programs.{WRITE, LEVEL, lastLine, actAt}
-use Rattle.meaning.specs.Step.{nothing, verdict, become, put, apply}
+use Rattle.meaning.specs.Step.{nothing, verdict, become, put, came, apply}
 use Rattle.meaning.specs.Call.{Outcome, refused, left, isIdle, storedN, storedC, begun, told, Entry, begin, step, calling}
 use Rattle.meaning.specs.Schedule.{Words}
 use Rattle.meaning.proofs.Base.Words.{and-left, and-right, within-true, either-way, upd-each}
@@ -27,9 +29,9 @@ use Rattle.meaning.proofs.Invariant.{Becomes, Puts}
 use Rattle.meaning.proofs.Invariant.Keeping.{everyLine, everywhere}
 use Rattle.meaning.proofs.Base.Schedules.{by-begin, by-step}
 use Rattle.meaning.proofs.Lines.{_▸_, from-at}
-use Rattle.meaning.proofs.Acts.{wearing, shape, NearBounded, Bounded, LowWords, wearing-bounded, wearing-low, Onto, Lands, lands}
+use Rattle.meaning.proofs.Acts.{wearing, shape, Passable, NearBounded, Bounded, LowWords, wearing-bounded, wearing-low, Onto, Lands, lands}
 use Rattle.store.proofs.Sound.{Working, SoundThread, open-working, working-stands, near-bounded}
-use Rattle.store.proofs.Range.{Cell, Seat, Ranged, ranged-sound, near-words}
+use Rattle.store.proofs.Range.{AtMost, Proper, Cell, Seat, Ranged, ranged-sound, near-words}
 
 -- ---- a record and an effect that keep it
 
@@ -37,11 +39,18 @@ become-low : (c : Word) (w bound : ℕ) → Becomes c (λ w. w ≤ bound) → w 
 become-low Stay w bound x low = low
 become-low (Become w′) w bound x low = x
 
-put-cell : (size bound : ℕ) (c : Update) (f : ℕ → ℕ) → Puts c (λ k w. (k < size) × (w ≤ bound)) →
-    ((k : ℕ) → Cell size bound k (f k)) → (k : ℕ) → Cell size bound k (put c f k)
-put-cell size bound Keep f x all = all
-put-cell size bound (Put i w) f x all =
-    upd-each (Cell size bound) f i w (record { low = λ _. x .1; past = λ h. absurd (omega arith) }) (λ k _. all k)
+put-cell : (size : ℕ) (In : ℕ → Type 0) (c : Update) (f : ℕ → ℕ) → Puts c (λ k w. (k < size) × In w) →
+    ((k : ℕ) → Cell size In k (f k)) → (k : ℕ) → Cell size In k (put c f k)
+put-cell size In Keep f x all = all
+put-cell size In (Put i w) f x all =
+    upd-each (Cell size In) f i w (record { low = λ _. x .1; past = λ h. absurd (omega (arith, x .0)) }) (λ k _. all k)
+
+-- of locks or owners: what the change comes to
+came-cell : (size threads : ℕ) (c : Pass) (f : ℕ → ℕ) → Passable size threads f c → ((k : ℕ) → Cell size (Proper threads) k (f k)) →
+    Puts (came f c) (λ k w. (k < size) × Proper threads w)
+came-cell size threads Leave f x all = tt
+came-cell size threads (Plus k m) f x all = (x .low, x .stays (all k .low (x .low)))
+came-cell size threads (Minus k m) f x all = (x .low, x .stays (all k .low (x .low)))
 
 -- the place and the word
 both-puts : (size bound : ℕ) (c : Update) → Puts c (λ k w. k < size) → Puts c (λ k w. w ≤ bound) →
@@ -60,12 +69,18 @@ apply-ranged s R t below r e sound B W wear =
       thread =
           upd-each (Seat (s .threads) (s .numbers) (s .blocks)) (s .thread) t r
           (record { sound = λ _. sound; c = W .c; past = λ h. absurd (omega arith) }) (λ v _. R .thread v);
-      map = put-cell (s .numbers) (s .blocks) (e .map) (s .map) (B .map) (R .map);
-      locks = put-cell (s .numbers) (s .threads) (e .locks) (s .locks) (B .locks) (R .locks);
-      header = put-cell (s .blocks) (s .numbers) (e .header) (s .header) (B .header) (R .header);
-      content = put-cell (s .blocks) mostWord (e .content) (s .content) (both-puts (s .blocks) mostWord (e .content) (B .content) (W .content)) (R .content);
-      wear = put-cell (s .blocks) mostWord (e .wear) (s .wear) wear (R .wear);
-      own = put-cell (s .blocks) (s .threads) (e .own) (s .own) (B .own) (R .own);
+      map = put-cell (s .numbers) (AtMost (s .blocks)) (e .map) (s .map) (B .map) (R .map);
+      locks =
+          put-cell (s .numbers) (Proper (s .threads)) (came (s .locks) (e .locks)) (s .locks)
+          (came-cell (s .numbers) (s .threads) (e .locks) (s .locks) (B .locks) (R .locks)) (R .locks);
+      header = put-cell (s .blocks) (AtMost (s .numbers)) (e .header) (s .header) (B .header) (R .header);
+      content =
+          put-cell (s .blocks) (AtMost mostWord) (e .content) (s .content)
+          (both-puts (s .blocks) mostWord (e .content) (B .content) (W .content)) (R .content);
+      wear = put-cell (s .blocks) (AtMost mostWord) (e .wear) (s .wear) wear (R .wear);
+      own =
+          put-cell (s .blocks) (Proper (s .threads)) (came (s .own) (e .own)) (s .own)
+          (came-cell (s .blocks) (s .threads) (e .own) (s .own) (B .own) (R .own)) (R .own);
     }
 
 -- the lines to which an act goes from this line are lines of its operation

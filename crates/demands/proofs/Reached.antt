@@ -1,9 +1,9 @@
 -- Computed: what the demands speak of is there.
 --  * needs-fault: each line goes on an area made by hand that has what the line needs, and meets FAULT (a take: BLOCKED) where one thing of it is
---    lacking; both where all else is free and where all else is the thread's.
+--    lacking; where all else is free, where all else is the thread's and it writes, and where it reads.
 --  * meetings-come, meetings-grown: areas grown from fresh where two threads are open at once. In the middle of a write and of a levelling
---    that moves a block they step in either order, to the same bytes; where both are at a take of one lock, whoever comes second is BLOCKED, and
---    the bytes are others.
+--    that moves a block they step in either order, to the same bytes, and so they do at a take of one lock for reading; where both are at a take of
+--    one lock and not both for reading, whoever comes second is BLOCKED, and the bytes are others.
 --  * overtaking-comes: a read that overtakes a write is before it in the order of last locks and gives empty; the bytes are those of
 --    the operations run one at a time in that order.
 --  * after-U10-comes: a read finishes with empty when U10 is done and U11 isn't, and stands after the unmap in the order.
@@ -35,9 +35,9 @@ use Rattle.demands.specs.Reached.{Meeting, formed, reached, meet, meetin
 use Rattle.demands.specs.History.{AllWords}
 use Rattle.demands.proofs.Bridge.{run-grown}
 
-pub needs-fault : (allGiven 0 ≡ allWanted) × (allGiven 1 ≡ allWanted)
+pub needs-fault : (allGiven 0 0 ≡ allWanted) × (allGiven 1 65536 ≡ allWanted) × (allGiven 1 1 ≡ allWanted)
 unfolding lineNeeds wellFormed
-needs-fault = (refl, refl)
+needs-fault = (refl, refl, refl)
 
 pub meetings-come : map (λ m. meet (reached m)) meetings ≡ map (λ m. m .comes) meetings
 unfolding meetings wellFormed
@@ -143,7 +143,7 @@ rewriting-wears = refl
 
 -- W16, R6 and U11, and L18 where nothing was moved and where something was
 pub finished-with :
-    finishedWith WRITE 16 0 ∷ finishedWith READ 6 0 ∷ finishedWith UNMAP 11 0 ∷ finishedWith LEVEL 18 0 ∷ finishedWith LEVEL 18 1 ∷ []
+    finishedWith 65536 WRITE 16 0 ∷ finishedWith 1 READ 6 0 ∷ finishedWith 0 UNMAP 11 0 ∷ finishedWith 0 LEVEL 18 0 ∷ finishedWith 0 LEVEL 18 1 ∷ []
     ≡ (1, 0) ∷ (1, 7) ∷ (1, 0) ∷ (1, 0) ∷ (1, 1) ∷ []
 unfolding wellFormed
 finished-with = refl

@@ -1,5 +1,6 @@
--- 01, "A line's needs", a row for each of the 51 lines, as samples: areas made by hand that have what the line needs, and such that lack one thing of
--- it. All else is free in them, or all else is the thread's: the other blocks, the locks, the headers.
+-- 01, "A line's needs", with readers and writers as 02, §3, has them, a row for each of the 51 lines, as samples: areas made by hand that have what
+-- the line needs, and such that lack one thing of it. All else is free in them, or all else is the thread's: the other blocks, the locks, the
+-- headers.
 use mathlib.Core.List.{List, [], _∷_, _++_, map}
 use Prim.Native.Nat.{ℕ, suc, _+_, _*_}
 use lib.ListN.{set}
@@ -18,17 +19,18 @@ inP = 1
 abbrev pub inQ : ℕ
 inQ = 2
 
--- an area of two threads, one number and three blocks. Thread 0 stands at a line, with 0, 1 and 2 in n, p and q. All locks, owners and headers are w:
--- 0 for free, or 1, so that locks and owners are thread 0's and the blocks number 0's
-abbrev pub made : ℕ → ℕ → ℕ → List ℕ
-made w op line =
+-- an area of two threads, one number and three blocks. Thread 0 stands at a line, with 0, 1 and 2 in n, p and q. H, the headers' owner and all
+-- headers are w: 0 for free, or 1, so that H and the headers are thread 0's and the blocks number 0's. The number's lock and the blocks' owners are
+-- x: 0 for free, 1 where thread 0 reads, or 65,536 where it writes
+abbrev pub made : ℕ → ℕ → ℕ → ℕ → List ℕ
+made w x op line =
     2 ∷ 1 ∷ 3 ∷ 1 ∷ w ∷ w  -- the four sizes, H and the headers' owner
     ∷ op ∷ line ∷ 0 ∷ 0 ∷ inP ∷ inQ ∷ 0  -- thread 0
     ∷ 0 ∷ 0 ∷ 0 ∷ 0 ∷ 0 ∷ 0 ∷ 0  -- thread 1 is idle
-    ∷ 0 ∷ w  -- number 0 is unmapped; its lock
-    ∷ w ∷ 0 ∷ 0 ∷ w  -- block 0
-    ∷ w ∷ 0 ∷ 0 ∷ w  -- block 1, p
-    ∷ w ∷ 0 ∷ 0 ∷ w  -- block 2, q
+    ∷ 0 ∷ x  -- number 0 is unmapped; its lock
+    ∷ w ∷ 0 ∷ 0 ∷ x  -- block 0
+    ∷ w ∷ 0 ∷ 0 ∷ x  -- block 1, p
+    ∷ w ∷ 0 ∷ 0 ∷ x  -- block 2, q
     ∷ []
 
 -- where the lock of number 0 stands, and a block's header and owner
@@ -51,28 +53,53 @@ with a (x ∷ l) = with (set a (x .0) (x .1)) l
 
 -- ---- samples of a need
 
--- a need, by words: those with which it is met, and those with each of which it isn't
+-- a need, by words: those with each of which it is met, and those with each of which it isn't
 pub record Sample : Type 0 where
-  pub having : Written
+  pub having : List Written
   pub lacking : List Written
 
--- held or owned by this thread: not by nobody, and not by thread 1
-abbrev pub held : ℕ → Sample
-held at = record { having = (at, 1) ∷ []; lacking = ((at, 0) ∷ []) ∷ ((at, 2) ∷ []) ∷ [] }
+-- these words at a place, one at a time
+abbrev pub each : ℕ → List ℕ → List Written
+each at = map (λ w. (at, w) ∷ [])
 
--- held or owned by nobody: not by this thread, and not by thread 1
+abbrev pub sample : ℕ → List ℕ → List ℕ → Sample
+sample at having lacking = record { having = each at having; lacking = each at lacking }
+
+-- H or the headers, held or owned by this thread: not by nobody, and not by thread 1
+abbrev pub held : ℕ → Sample
+held at = sample at (1 ∷ []) (0 ∷ 2 ∷ [])
+
+-- and by nobody: not by this thread, and not by thread 1
 abbrev pub nobodys : ℕ → Sample
-nobodys at = record { having = (at, 0) ∷ []; lacking = ((at, 1) ∷ []) ∷ ((at, 2) ∷ []) ∷ [] }
+nobodys at = sample at (0 ∷ []) (1 ∷ 2 ∷ [])
+
+-- the number's lock or a block: 1 is this thread's place in the set, 2 thread 1's, 3 both; 65,536 is this thread's writing, 131,072 thread 1's.
+-- A reader is let in where nobody has it and where thread 1 alone reads, a writer where nobody has it
+abbrev pub lets-reader : ℕ → Sample
+lets-reader at = sample at (0 ∷ 2 ∷ []) (1 ∷ 3 ∷ 65536 ∷ 131072 ∷ [])
+
+abbrev pub lets-writer : ℕ → Sample
+lets-writer at = sample at (0 ∷ []) (1 ∷ 2 ∷ 3 ∷ 65536 ∷ 131072 ∷ [])
+
+-- this thread reads it, whoever else does; it writes it; it does either
+abbrev pub read : ℕ → Sample
+read at = sample at (1 ∷ 3 ∷ []) (0 ∷ 2 ∷ 65536 ∷ 131072 ∷ [])
+
+abbrev pub written : ℕ → Sample
+written at = sample at (65536 ∷ []) (0 ∷ 1 ∷ 2 ∷ 3 ∷ 131072 ∷ [])
+
+abbrev pub read-or-written : ℕ → Sample
+read-or-written at = sample at (1 ∷ 3 ∷ 65536 ∷ []) (0 ∷ 2 ∷ 131072 ∷ [])
 
 -- a header that is not free
 abbrev pub used : ℕ → Sample
-used m = record { having = (headerAt m, 1) ∷ []; lacking = ((headerAt m, 0) ∷ []) ∷ [] }
+used m = sample (headerAt m) (1 ∷ []) (0 ∷ [])
 
 -- some free block, here the last
 abbrev pub someFree : Sample
 someFree =
     record {
-      having = (headerAt 0, 1) ∷ (headerAt 1, 1) ∷ (headerAt 2, 0) ∷ [];
+      having = ((headerAt 0, 1) ∷ (headerAt 1, 1) ∷ (headerAt 2, 0) ∷ []) ∷ [];
       lacking = ((headerAt 0, 1) ∷ (headerAt 1, 1) ∷ (headerAt 2, 1) ∷ []) ∷ [];
     }
 
@@ -88,81 +115,84 @@ goes samples = record { samples = samples; number = WENT; otherwise = FAULT }
 abbrev pub finishes : List Sample → Row
 finishes samples = record { samples = samples; number = FINISHED; otherwise = FAULT }
 
-abbrev pub takes : ℕ → Row
-takes at = record { samples = nobodys at ∷ []; number = WENT; otherwise = BLOCKED }
+abbrev pub takes : Sample → Row
+takes lets = record { samples = lets ∷ []; number = WENT; otherwise = BLOCKED }
 
--- 01, "A line's needs", of the lines on a content, and of those that write a header
+-- 01, "A line's needs", with 02, §3: of the lines that write a content or read one, and of those that write a header
 abbrev pub contentNeeds : ℕ → List Sample
-contentNeeds m = held (ownAt m) ∷ used m ∷ []
+contentNeeds m = written (ownAt m) ∷ used m ∷ []
+
+abbrev pub readingNeeds : ℕ → List Sample
+readingNeeds m = read-or-written (ownAt m) ∷ used m ∷ []
 
 abbrev pub headerNeeds : ℕ → List Sample
-headerNeeds m = held ownerAt ∷ held (ownAt m) ∷ []
+headerNeeds m = held ownerAt ∷ written (ownAt m) ∷ []
 
 -- ---- the rows, in the lines' order
 
 abbrev pub writeNeeds : List Row
 writeNeeds =
-    takes lockAt  -- W1
-    ∷ takes lockOfAt  -- W2
+    takes (nobodys lockAt)  -- W1
+    ∷ takes (lets-writer lockOfAt)  -- W2
     ∷ goes []  -- W3
     ∷ goes (nobodys ownerAt ∷ [])  -- W4
     ∷ goes (held ownerAt ∷ someFree ∷ [])  -- W5
-    ∷ goes (nobodys (ownAt inP) ∷ [])  -- W6
+    ∷ goes (lets-writer (ownAt inP) ∷ [])  -- W6
     ∷ goes (headerNeeds inP)  -- W7
     ∷ goes (contentNeeds inP)  -- W8
-    ∷ goes (held (ownAt inP) ∷ [])  -- W9
+    ∷ goes (written (ownAt inP) ∷ [])  -- W9
     ∷ goes []  -- W10
     ∷ goes (held ownerAt ∷ [])  -- W11
     ∷ goes (held lockAt ∷ [])  -- W12
-    ∷ goes (nobodys (ownAt inP) ∷ [])  -- W13
+    ∷ goes (lets-writer (ownAt inP) ∷ [])  -- W13
     ∷ goes (contentNeeds inP)  -- W14
-    ∷ goes (held (ownAt inP) ∷ [])  -- W15
-    ∷ finishes (held lockOfAt ∷ [])  -- W16
+    ∷ goes (written (ownAt inP) ∷ [])  -- W15
+    ∷ finishes (written lockOfAt ∷ [])  -- W16
     ∷ []
 
 abbrev pub readNeeds : List Row
 readNeeds =
-    takes lockOfAt  -- R1
+    takes (lets-reader lockOfAt)  -- R1
     ∷ goes []  -- R2
-    ∷ goes (nobodys (ownAt inP) ∷ [])  -- R3
-    ∷ goes (contentNeeds inP)  -- R4
-    ∷ goes (held (ownAt inP) ∷ [])  -- R5
-    ∷ finishes (held lockOfAt ∷ [])  -- R6
+    ∷ goes (lets-reader (ownAt inP) ∷ [])  -- R3
+    ∷ goes (readingNeeds inP)  -- R4
+    ∷ goes (read (ownAt inP) ∷ [])  -- R5
+    ∷ finishes (read lockOfAt ∷ [])  -- R6
     ∷ []
 
 abbrev pub unmapNeeds : List Row
 unmapNeeds =
-    takes lockAt  -- U1
-    ∷ takes lockOfAt  -- U2
+    takes (nobodys lockAt)  -- U1
+    ∷ takes (lets-writer lockOfAt)  -- U2
     ∷ goes []  -- U3
     ∷ goes (nobodys ownerAt ∷ [])  -- U4
-    ∷ goes (nobodys (ownAt inP) ∷ [])  -- U5
+    ∷ goes (lets-writer (ownAt inP) ∷ [])  -- U5
     ∷ goes []  -- U6
     ∷ goes (headerNeeds inP)  -- U7
-    ∷ goes (held (ownAt inP) ∷ [])  -- U8
+    ∷ goes (written (ownAt inP) ∷ [])  -- U8
     ∷ goes (held ownerAt ∷ [])  -- U9
-    ∷ goes (held lockOfAt ∷ [])  -- U10
+    ∷ goes (written lockOfAt ∷ [])  -- U10
     ∷ finishes (held lockAt ∷ [])  -- U11
     ∷ []
 
 abbrev pub levelNeeds : List Row
 levelNeeds =
-    takes lockAt  -- L1
+    takes (nobodys lockAt)  -- L1
     ∷ goes (nobodys ownerAt ∷ [])  -- L2
     ∷ goes (held ownerAt ∷ someFree ∷ [])  -- L3
     ∷ goes (held ownerAt ∷ [])  -- L4
     ∷ goes []  -- L5
-    ∷ takes lockOfAt  -- L6
-    ∷ goes (nobodys (ownAt inP) ∷ [])  -- L7
-    ∷ goes (contentNeeds inP)  -- L8
-    ∷ goes (nobodys (ownAt inQ) ∷ [])  -- L9
+    ∷ takes (lets-writer lockOfAt)  -- L6
+    ∷ goes (lets-writer (ownAt inP) ∷ [])  -- L7
+    ∷ goes (readingNeeds inP)  -- L8
+    ∷ goes (lets-writer (ownAt inQ) ∷ [])  -- L9
     ∷ goes (headerNeeds inQ)  -- L10
     ∷ goes (contentNeeds inQ)  -- L11
     ∷ goes []  -- L12
     ∷ goes (headerNeeds inP)  -- L13
-    ∷ goes (held (ownAt inQ) ∷ [])  -- L14
-    ∷ goes (held (ownAt inP) ∷ [])  -- L15
-    ∷ goes (held lockOfAt ∷ [])  -- L16
+    ∷ goes (written (ownAt inQ) ∷ [])  -- L14
+    ∷ goes (written (ownAt inP) ∷ [])  -- L15
+    ∷ goes (written lockOfAt ∷ [])  -- L16
     ∷ goes (held ownerAt ∷ [])  -- L17
     ∷ finishes (held lockAt ∷ [])  -- L18
     ∷ []
@@ -173,31 +203,36 @@ lineNeeds = (WRITE, writeNeeds) ∷ (READ, readNeeds) ∷ (UNMAP, unmapNeeds) �
 
 -- ---- what the lines give
 
--- the words with which all needs are met, and those with each of which one isn't and the others are
-abbrev pub havingAll : List Sample → Written
-havingAll [] = []
-havingAll (x ∷ l) = x .having ++ havingAll l
+-- each of the first with each of the second
+abbrev pub pairs : List Written → List Written → List Written
+pairs [] l = []
+pairs (x ∷ k) l = map (λ y. x ++ y) l ++ pairs k l
+
+-- the words with each of which all needs are met, and those with each of which one isn't and the others are
+abbrev pub havingAll : List Sample → List Written
+havingAll [] = [] ∷ []
+havingAll (x ∷ l) = pairs (x .having) (havingAll l)
 
 abbrev pub lackingOne : List Sample → List Written
 lackingOne [] = []
-lackingOne (x ∷ l) = map (λ y. y ++ havingAll l) (x .lacking) ++ map (λ y. x .having ++ y) (lackingOne l)
+lackingOne (x ∷ l) = pairs (x .lacking) (havingAll l) ++ pairs (x .having) (lackingOne l)
 
--- the numbers of a line's step, all else with the word w: with all needs met, and with one unmet
-abbrev pub gives : ℕ → ℕ → ℕ → Row → List ℕ
-gives w op line r = map (λ y. stepArea (bytes (with (made w op line) y)) 0 .number) (havingAll (r .samples) ∷ lackingOne (r .samples))
+-- the numbers of a line's step, all else with the words w and x: with all needs met, and with one unmet
+abbrev pub gives : ℕ → ℕ → ℕ → ℕ → Row → List ℕ
+gives w x op line r = map (λ y. stepArea (bytes (with (made w x op line) y)) 0 .number) (havingAll (r .samples) ++ lackingOne (r .samples))
 
 -- what they must be
 abbrev pub wanted : Row → List ℕ
-wanted r = r .number ∷ map (λ y. r .otherwise) (lackingOne (r .samples))
+wanted r = map (λ y. r .number) (havingAll (r .samples)) ++ map (λ y. r .otherwise) (lackingOne (r .samples))
 
 -- of the lines of a program from this one on
-abbrev pub givesFrom : ℕ → ℕ → ℕ → List Row → List (List ℕ)
-givesFrom w op line [] = []
-givesFrom w op line (r ∷ l) = gives w op line r ∷ givesFrom w op (suc line) l
+abbrev pub givesFrom : ℕ → ℕ → ℕ → ℕ → List Row → List (List ℕ)
+givesFrom w x op line [] = []
+givesFrom w x op line (r ∷ l) = gives w x op line r ∷ givesFrom w x op (suc line) l
 
 -- of all programs
-abbrev pub allGiven : ℕ → List (List (List ℕ))
-allGiven w = map (λ x. givesFrom w (x .0) 1 (x .1)) lineNeeds
+abbrev pub allGiven : ℕ → ℕ → List (List (List ℕ))
+allGiven w x = map (λ y. givesFrom w x (y .0) 1 (y .1)) lineNeeds
 
 abbrev pub allWanted : List (List (List ℕ))
 allWanted = map (λ x. map wanted (x .1)) lineNeeds

@@ -109,6 +109,24 @@ meetings =
       before = does 0 WRITE 0 7 0 (does 1 WRITE 0 8 0 []);
       comes = record { zeroth = at WRITE 1 WENT BLOCKED; other = at WRITE 1 WENT BLOCKED; alike = false };
     }
+    -- two reads that are about to take the lock of number 0: both go
+    ∷ record {
+      t = 2;
+      n = 1;
+      p = 2;
+      d = 1;
+      before = does 0 READ 0 0 0 (does 1 READ 0 0 0 []);
+      comes = record { zeroth = at READ 1 WENT WENT; other = at READ 1 WENT WENT; alike = true };
+    }
+    -- a read that lets go of a block, and one that is about to own it
+    ∷ record {
+      t = 2;
+      n = 1;
+      p = 2;
+      d = 1;
+      before = does 0 WRITE 0 7 16 (does 0 READ 0 0 4 (does 1 READ 0 0 2 []));
+      comes = record { zeroth = at READ 5 WENT WENT; other = at READ 3 WENT WENT; alike = true };
+    }
     -- a read and a write that are about to take the lock of number 0
     ∷ record {
       t = 2;
@@ -231,7 +249,7 @@ reused =
 -- the wear of p after a step of thread 0 at a line at which it frees p, from this wear on
 abbrev pub freedFrom : ℕ → ℕ → ℕ → ℕ
 freedFrom op line wear =
-    decode (stepArea (bytes (with (made 1 op line) ((headerAt inP + 2, wear) ∷ []))) 0 .after) .wear inP
+    decode (stepArea (bytes (with (made 1 65536 op line) ((headerAt inP + 2, wear) ∷ []))) 0 .after) .wear inP
 
 -- three blocks: 0 is free, 1 is number 1's, and 2, the last, number 0's; their wear is 4, 5 and x. Thread 0 is at W3 with number 0, whose word of the
 -- map is w, and with 1 in register p; it holds and owns nothing
@@ -252,10 +270,10 @@ lookedUp w x =
     let s = decode (y .after) in
     y .number ∷ s .thread 0 .line ∷ s .thread 0 .p ∷ s .wear 0 ∷ s .wear 1 ∷ s .wear 2 ∷ []
 
--- number and value of a step of thread 0 at a line, with 7 in register c and this in register h
-abbrev pub finishedWith : ℕ → ℕ → ℕ → ℕ × ℕ
-finishedWith op line h =
-    let x = stepArea (bytes (with (made 1 op line) ((threadsAt + 3, 7) ∷ (threadsAt + 6, h) ∷ []))) 0 in
+-- number and value of a step of thread 0 at a line, with this word in the number's lock, 7 in register c and this in register h
+abbrev pub finishedWith : ℕ → ℕ → ℕ → ℕ → ℕ × ℕ
+finishedWith lock op line h =
+    let x = stepArea (bytes (with (made 1 lock op line) ((threadsAt + 3, 7) ∷ (threadsAt + 6, h) ∷ []))) 0 in
     (x .number, x .value)
 
 -- five blocks with ties: 0 and 1 are free with wear 3, 2 and 3 are mapped with wear 1, 4 is free with wear 2. Thread 0 is at L3 and owns the

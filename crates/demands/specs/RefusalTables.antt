@@ -59,12 +59,12 @@ pub record BeginRefusals (a : List ℕ) (t op n c : ℕ) : Type 0 where
       (beginArea a t op n c .number ≡ WENT)
       ↔ Past (wellFormed a ∷ known a t ∷ rests a t ∷ operable op ∷ []) (numbered a op n ≡ true)
 
--- of thread t's next line: a need of it isn't met; it takes a lock that isn't free; it is its operation's last
+-- of thread t's next line: a need of it isn't met; it takes a lock that doesn't let it in; it is its operation's last
 abbrev pub lacking : List ℕ → ℕ → Bool
 lacking a t = fails (decode a) t (decode a .thread t) (asks (nextAct (decode a .thread t)))
 
 abbrev pub barred : List ℕ → ℕ → Bool
-barred a t = waits (decode a) (decode a .thread t) (asks (nextAct (decode a .thread t)))
+barred a t = waits (decode a) t (decode a .thread t) (asks (nextAct (decode a .thread t)))
 
 abbrev pub onLast : List ℕ → ℕ → Bool
 onLast a t = eqb (decode a .thread t .line) (lastLine (decode a .thread t .op))

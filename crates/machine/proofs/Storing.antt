@@ -1,5 +1,5 @@
 -- A setter after the other: the store that the area holds after each. Assumes nothing.
-use mathlib.Core.Path.{_≡_, refl, _∙_, ap}
+use mathlib.Core.Path.{_≡_, refl, _∙_, sym, ap, subst}
 use mathlib.Core.List.{List}
 use Prim.Native.Nat.{ℕ, _+_, _*_, _<_}
 use native.Mathlib.Omega.{arith}
@@ -8,14 +8,15 @@ use Rattle.meaning.specs.declared.Word.{Word}
 use Rattle.meaning.specs.declared.Word.the-variants.{Stay, Become}
 use Rattle.meaning.specs.declared.Update.{Update}
 use Rattle.meaning.specs.declared.Update.the-variants.{Keep, Put}
+use Rattle.meaning.specs.declared.Pass.{Pass}
 use Rattle.meaning.specs.declared.Effect.{Effect}
 use Rattle.meaning.specs.Store.{Store}
 use Rattle.meaning.specs.Step.{apply, nothing}
 use Rattle.store.specs.Layout.{pAt, lockAt, ownerAt, threadsAt, threadWords}
 use Rattle.store.specs.Area.{Bytes, decode}
-use Rattle.store.specs.Live.{Live, Within, BecomeFits, EntryFits, EntryBelow, EntryWithin, Small, withEffect, putWord, putBecome, putEntry, putThread}
+use Rattle.store.specs.Live.{Live, Within, BecomeFits, EntryFits, EntryBelow, PassBelow, EntryWithin, Small, withEffect, putWord, putBecome, putEntry, passed, putThread}
 use Rattle.store.proofs.Bytes.{bytes-put}
-use Rattle.store.proofs.Tables.{lockOnly, ownerOnly, live-become, live-entry, within-entry, decode-lock, decode-owner, live-thread, decode-thread}
+use Rattle.store.proofs.Tables.{lockOnly, ownerOnly, live-become, live-entry, within-entry, passed-below, decode-lock, decode-owner, live-thread, decode-thread}
 use Rattle.machine.specs.Settling.{Stored}
 
 -- at the start
@@ -86,6 +87,25 @@ module _ {a b : List ℕ} {t n p : ℕ} {s : Store} (r : Stored a b t n p s) whe
         live = live-entry (r .live) from stride count e h inside f;
         bytes = λ y. bytes-entry b from stride e (r .bytes y);
       })
+
+  -- the same of a pass of table f
+  pub stored-pass :
+      {c : List ℕ} (from stride count place : ℕ) (f : ℕ → ℕ) (e : Pass) (x : Effect) → place ≡ from →
+      (c ≡ putEntry b place stride (passed b place stride e)) × EntryFits (passed b place stride e) → PassBelow count f e →
+      ((k : ℕ) → k < count → Within b (from + stride * k) × (pAt < from + stride * k)) →
+      (EntryFits (passed b from stride e) → decode (putEntry b from stride (passed b from stride e)) ≡ withEffect (decode b) x) →
+      Stored a c t n p (withEffect s x)
+  stored-pass from stride count place f e x q i h inside law =
+      let j = rw q at i in
+      stored-entry from stride count from (passed b from stride e) x refl (j .0) (j .1) (passed-below b from stride count f e h) inside
+      (law (j .1))
+
+  -- what becomes of a lock or an owner is a word of the area as of the store
+  pub locks-fit : (count : ℕ) (e : Pass) → PassBelow count (s .locks) e → PassBelow count (decode b .locks) e
+  locks-fit count e = subst (λ (x : Store). PassBelow count (x .locks) e) (sym (r .decoded))
+
+  pub own-fit : (count : ℕ) (e : Pass) → PassBelow count (s .own) e → PassBelow count (decode b .own) e
+  own-fit count e = subst (λ (x : Store). PassBelow count (x .own) e) (sym (r .decoded))
 
   pub stored-thread :
       {c : List ℕ} (k : ℕ) (x : Thread) → c ≡ putThread b (threadsAt + threadWords * k) x → Small x → k < t →

@@ -1,7 +1,7 @@
 -- What the functions that judge a step take for granted, and the store that they are given as words and arrays.
 use mathlib.Core.Path.{_≡_}
-use mathlib.Core.Bool.{Bool, not, _&&_}
-use lib.Dec.{eqb, ltb}
+use mathlib.Core.Bool.{Bool, not, _&&_, _||_}
+use lib.Dec.{ltb}
 use Prim.Native.Nat.{ℕ, _<_, _≤_}
 use Rattle.meaning.specs.declared.Thread.{Thread}
 use Rattle.meaning.specs.declared.Found.{Found}
@@ -11,9 +11,10 @@ use Rattle.meaning.specs.Limits.{mostThreads, mostNumbers, mostBlocks, mostWord
 use Rattle.meaning.specs.Store.{Store}
 use Rattle.meaning.specs.Programs.{LEVEL, lastLine}
 use Rattle.meaning.specs.declared.Verdict.{Verdict}
+use Rattle.meaning.specs.declared.Kind.the-variants.{Reader, Writer}
 use Rattle.meaning.specs.declared.Reg.{Reg}
 use Rattle.meaning.specs.declared.Reg.the-variants.{P, Q}
-use Rattle.meaning.specs.Holding.{free, named}
+use Rattle.meaning.specs.Holding.{free, heldBy, held, named}
 use Rattle.meaning.specs.Choosing.{lowestFree, toBlock, leastWorn}
 use Rattle.meaning.specs.Step.{need, next, setP, choosing, nothing}
 use Rattle.machine.specs.declared.Near.{Near}
@@ -80,12 +81,15 @@ abbrev pub headerOf : Near → Reg → ℕ
 headerOf x P = x .«header_p»
 headerOf x Q = x .«header_q»
 
--- `heads` and `touches` of specs/Step.antt in the words near; `me` is the word of what the thread owns
+-- `heads`, `touches` and `sees` of specs/Step.antt in the words near
 abbrev pub headsOf : Near → ℕ → Reg → Bool
-headsOf x me b = eqb (x .owner) me && eqb (ownOf x b) me
+headsOf x t b = heldBy t (x .owner) && held Writer t (ownOf x b)
 
 abbrev pub touchesOf : Near → ℕ → Reg → Bool
-touchesOf x me b = eqb (ownOf x b) me && not (free (headerOf x b))
+touchesOf x t b = held Writer t (ownOf x b) && not (free (headerOf x b))
+
+abbrev pub seesOf : Near → ℕ → Reg → Bool
+seesOf x t b = (held Reader t (ownOf x b) || held Writer t (ownOf x b)) && not (free (headerOf x b))
 
 -- the numbers of a working thread's record, as constants bound them
 pub record Steady (t : ℕ) (r : Thread) : Type 0 where

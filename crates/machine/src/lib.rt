@@ -5,18 +5,21 @@ ghost use mathlib.Core.Path.{_≡_};
 ghost use Prim.Native.Nat.{_<_, _≤_};
 ghost use Rattle.meaning.specs.Table.{below};
 ghost use Rattle.meaning.specs.Store.{Store as StoreOf};
-ghost use Rattle.meaning.specs.Limits.{mostNumbers, mostBlocks, mostWord};
+ghost use Rattle.meaning.specs.Limits.{mostThreads, mostNumbers, mostBlocks, mostWord};
 ghost use Rattle.meaning.specs.Programs.{actAt};
 ghost use Rattle.meaning.specs.Choosing.{lowestFree, toBlock, leastWorn, fromBlock};
 ghost use Rattle.meaning.specs.Step.{toRewrite, perform, apply as applyOf};
-ghost use Rattle.store.specs.Live.{table, Live, EntryBelow, withEffect};
+ghost use Rattle.store.specs.Live.{table, Live, EntryBelow, PassBelow, withEffect};
 ghost use Rattle.machine.specs.Settling.{EffectInside, Stored, unblocked, onBlocks};
 ghost use Rattle.store.specs.Area.{decode};
-ghost use Rattle.machine.specs.Judging.{placeOf, chosenOf, pickedOf, ownOf, headerOf, headsOf, touchesOf, Sees, Searches, nearOf, Steady, AtLine};
+ghost use Rattle.machine.specs.Judging.{placeOf, chosenOf, pickedOf, ownOf, headerOf, headsOf, touchesOf, seesOf, Sees, Searches, nearOf, Steady, AtLine};
+use acts::admits;
 use acts::answer;
 use acts::block;
 use acts::branch;
 use acts::goto;
+use acts::held;
+use acts::mark;
 use acts::named;
 use acts::need;
 use acts::next;
@@ -42,6 +45,11 @@ use meaning::Act;
 use meaning::Act::*;
 use meaning::Effect;
 use meaning::Found;
+use meaning::Kind::Reader;
+use meaning::Kind::Writer;
+use meaning::Pass;
+use meaning::Pass::Minus;
+use meaning::Pass::Plus;
 use meaning::Reg;
 use meaning::Reg::P;
 use meaning::Reg::Q;
@@ -214,17 +222,27 @@ fn header_of(x: Near, b: Reg) -> u32
     }
 }
 
-// What writing that header needs, and what a line on the block's content needs.
-fn heads(x: Near, me: u32, b: Reg) -> bool
-    ensures { λ r. ⌜ r ≡ headsOf x me b ⌝ }
+// What writing that header needs, what writing the block's content needs, and what reading it needs.
+fn heads(x: Near, t: u32, b: Reg) -> bool
+    requires { ⌜ t < mostThreads ⌝ }
+    ensures { λ r. ⌜ r ≡ headsOf x t b ⌝ }
 {
-    (x.owner == me) & (own_of(x, b) == me)
+    (x.owner == t + 1) & held(Writer, t, own_of(x, b))
 }
 
-fn touches(x: Near, me: u32, b: Reg) -> bool
-    ensures { λ r. ⌜ r ≡ touchesOf x me b ⌝ }
+fn touches(x: Near, t: u32, b: Reg) -> bool
+    requires { ⌜ t < mostThreads ⌝ }
+    ensures { λ r. ⌜ r ≡ touchesOf x t b ⌝ }
 {
-    (own_of(x, b) == me) & (header_of(x, b) != 0)
+    held(Writer, t, own_of(x, b)) & (header_of(x, b) != 0)
+}
+
+fn sees(x: Near, t: u32, b: Reg) -> bool
+    requires { ⌜ t < mostThreads ⌝ }
+    ensures { λ r. ⌜ r ≡ seesOf x t b ⌝ }
+{
+    let own = own_of(x, b);
+    (held(Reader, t, own) | held(Writer, t, own)) & (header_of(x, b) != 0)
 }
 
 // W5, where the headers are owned.
@@ -248,7 +266,7 @@ fn to_rewrite(l: u32, map: u32, wear: u32, r: Thread) -> Verdict
     Go(set_p(p, goto(l, r)), on_wear(p, worn(wear)))
 }
 
-// What the act would do: an arm an act, as in specs/Step.antt. `me` is the word of what thread t holds or owns.
+// What the act would do: an arm an act, as in specs/Step.antt. `me` is thread t's word of H and of the headers' owner.
 fn judge_act<'a>(
     act: Act,
     t: u32,
@@ -263,16 +281,31 @@ fn judge_act<'a>(
     let me = t + 1;
     match act {
         Nothing => Fault,
-        TakeH => take(x.lock, next(r, on_lock(me))),
+        TakeH => take(x.lock == 0, next(r, on_lock(me))),
         ReleaseH => need(x.lock == me, next(r, on_lock(0))),
         FinishH(a) => need(x.lock == me, Done(answer(a, r), on_lock(0))),
-        TakeN => take(x.locks, next(r, on_locks(r.n, me))),
-        ReleaseN => need(x.locks == me, next(r, on_locks(r.n, 0))),
-        FinishN(a) => need(x.locks == me, Done(answer(a, r), on_locks(r.n, 0))),
+        TakeN(k) => take(
+            admits(k, t, x.locks),
+            next(r, on_locks(Plus(r.n, mark(k, t)))),
+        ),
+        ReleaseN => need(
+            held(Writer, t, x.locks),
+            next(r, on_locks(Minus(r.n, mark(Writer, t)))),
+        ),
+        FinishN(k, a) => need(
+            held(k, t, x.locks),
+            Done(answer(a, r), on_locks(Minus(r.n, mark(k, t)))),
+        ),
         OwnHeaders => need(x.owner == 0, next(r, on_owner(me))),
         LetGoHeaders => need(x.owner == me, next(r, on_owner(0))),
-        Own(b) => need(own_of(x, b) == 0, next(r, on_own(block(b, r), me))),
-        LetGo(b) => need(own_of(x, b) == me, next(r, on_own(block(b, r), 0))),
+        Own(k, b) => need(
+            admits(k, t, own_of(x, b)),
+            next(r, on_own(Plus(block(b, r), mark(k, t)))),
+        ),
+        LetGo(k, b) => need(
+            held(k, t, own_of(x, b)),
+            next(r, on_own(Minus(block(b, r), mark(k, t)))),
+        ),
         GoIfMapped(l) => to_rewrite(l, x.map, x.wear_n, r),
         GoIfUnmapped(l) => branch(x.map, goto(l, r), set_p(named(x.map), onward(r))),
         EmptyIfUnmapped(l) => branch(x.map, set_c(0, goto(l, r)), set_p(named(x.map), onward(r))),
@@ -280,12 +313,12 @@ fn judge_act<'a>(
         PickFree => need(x.owner == me, pick(header, x.blocks, r)),
         Choose => need(x.owner == me, choose(header, wear, x.blocks, x.distance, r)),
         ReadHeader => need(x.owner == me, next(set_h(x.header_p, r), nothing())),
-        WriteHeaderN => need(heads(x, me, P), next(r, on_header(r.p, r.n + 1))),
-        WriteHeaderH => need(heads(x, me, Q), next(r, on_header(r.q, r.h))),
-        FreeHeader => need(heads(x, me, P), next(r, on_freed(r.p, worn(x.wear_p)))),
-        EmptyContent => need(touches(x, me, P), next(r, on_content(r.p, 0))),
-        ReadContent => need(touches(x, me, P), next(set_c(x.content_p, r), nothing())),
-        WriteContent(b) => need(touches(x, me, b), next(r, on_content(block(b, r), r.c))),
+        WriteHeaderN => need(heads(x, t, P), next(r, on_header(r.p, r.n + 1))),
+        WriteHeaderH => need(heads(x, t, Q), next(r, on_header(r.q, r.h))),
+        FreeHeader => need(heads(x, t, P), next(r, on_freed(r.p, worn(x.wear_p)))),
+        EmptyContent => need(touches(x, t, P), next(r, on_content(r.p, 0))),
+        ReadContent => need(sees(x, t, P), next(set_c(x.content_p, r), nothing())),
+        WriteContent(b) => need(touches(x, t, b), next(r, on_content(block(b, r), r.c))),
         MapTo(b) => next(r, on_map(r.n, block(b, r) + 1)),
         Unmap => next(r, on_map(r.n, 0)),
     }
@@ -387,8 +420,8 @@ pub fn judge(area: &[u8], z: Sizes, t: u32, r: Thread) -> Verdict
 // ---- doing it
 
 // What becomes of H, the headers' owner, the map and the block locks.
-fn settle_numbers(area: &mut [u8], z: Sizes, lock: Word, owner: Word, map: Update, locks: Update)
-    requires { ⌜ Live (now area) (z .t) (z .n) (z .p) × EntryBelow (z .n) map × EntryBelow (z .n) locks ⌝ }
+fn settle_numbers(area: &mut [u8], z: Sizes, lock: Word, owner: Word, map: Update, locks: Pass)
+    requires { ⌜ Live (now area) (z .t) (z .n) (z .p) × EntryBelow (z .n) map × PassBelow (z .n) (decode (now area) .locks) locks ⌝ }
     ensures { λ _. ⌜ Stored (now (area .entry)) (now (area .exit)) (z .t) (z .n) (z .p) (withEffect (decode (now (area .entry))) (unblocked lock owner map locks)) ⌝ }
 {
     let t = z.t;
@@ -398,7 +431,7 @@ fn settle_numbers(area: &mut [u8], z: Sizes, lock: Word, owner: Word, map: Updat
     store::set_word(area, store::LOCK_AT, lock);
     store::set_word(area, store::OWNER_AT, owner);
     store::set_entry(area, map_at, 1, map);
-    store::set_entry(area, locks_at, 1, locks);
+    store::set_pass(area, locks_at, 1, locks);
 }
 
 // What becomes of the blocks.
@@ -408,9 +441,9 @@ fn settle_blocks(
     header: Update,
     content: Update,
     wear: Update,
-    own: Update,
+    own: Pass,
 )
-    requires { ⌜ Live (now area) (z .t) (z .n) (z .p) × EntryBelow (z .p) header × EntryBelow (z .p) content × EntryBelow (z .p) wear × EntryBelow (z .p) own ⌝ }
+    requires { ⌜ Live (now area) (z .t) (z .n) (z .p) × EntryBelow (z .p) header × EntryBelow (z .p) content × EntryBelow (z .p) wear × PassBelow (z .p) (decode (now area) .own) own ⌝ }
     ensures { λ _. ⌜ Stored (now (area .entry)) (now (area .exit)) (z .t) (z .n) (z .p) (withEffect (decode (now (area .entry))) (onBlocks header content wear own)) ⌝ }
 {
     let t = z.t;
@@ -419,12 +452,12 @@ fn settle_blocks(
     store::set_entry(area, at, store::BLOCK_WORDS, header);
     store::set_entry(area, at + store::CONTENT, store::BLOCK_WORDS, content);
     store::set_entry(area, at + store::WEAR, store::BLOCK_WORDS, wear);
-    store::set_entry(area, at + store::OWN, store::BLOCK_WORDS, own);
+    store::set_pass(area, at + store::OWN, store::BLOCK_WORDS, own);
 }
 
 // Thread k's record and an effect.
 pub fn settle(area: &mut [u8], z: Sizes, k: usize, r: Thread, e: Effect)
-    requires { ⌜ Live (now area) (z .t) (z .n) (z .p) × (k < z .t) × EffectInside (z .n) (z .p) e ⌝ }
+    requires { ⌜ Live (now area) (z .t) (z .n) (z .p) × (k < z .t) × EffectInside (decode (now area)) (z .n) (z .p) e ⌝ }
     ensures { λ _. ⌜ Stored (now (area .entry)) (now (area .exit)) (z .t) (z .n) (z .p) (applyOf (decode (now (area .entry))) k r e) ⌝ }
 {
     let lock = e.lock;

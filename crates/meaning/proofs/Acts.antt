@@ -10,9 +10,12 @@ use mathlib.Core.Path.{_≡_, refl, sym, subst}
 use mathlib.Core.Bool.{Bool, true, false, not, cond, _&&_}
 use mathlib.Core.List.{List, [], _∷_}
 use mathlib.Core.Logic.{_⊎_, inl, inr, _↔_}
-use Prim.Native.Nat.{ℕ, _+_, _<_, _≤_}
+use Prim.Native.Nat.{ℕ, _+_, _-_, _<_, _≤_}
 use native.Mathlib.Omega.{arith}
 use borrow.Author.Tests.{not-false, lt-ltb, le-ltb}
+use Rattle.meaning.specs.declared.Kind.{Kind}
+use Rattle.meaning.specs.declared.Kind.the-variants.{Writer}
+use Rattle.meaning.specs.declared.Reg.{Reg}
 use Rattle.meaning.specs.declared.Reg.the-variants.{P, Q}
 use Rattle.meaning.specs.declared.Answer.{Answer}
 use Rattle.meaning.specs.declared.Answer.the-variants.{Zero, C, Moved}
@@ -21,16 +24,20 @@ use Rattle.meaning.specs.declared.Act.the-variants.{Nothing, TakeH, Rele
 use Rattle.meaning.specs.declared.Thread.{Thread}
 use Rattle.meaning.specs.declared.Update.{Update}
 use Rattle.meaning.specs.declared.Update.the-variants.{Keep, Put}
+use Rattle.meaning.specs.declared.Pass.{Pass}
+use Rattle.meaning.specs.declared.Pass.the-variants.{Leave, Plus, Minus}
 use Rattle.meaning.specs.declared.Effect.{Effect}
 use Rattle.meaning.specs.declared.Verdict.{Verdict}
 use Rattle.meaning.specs.declared.Verdict.the-variants.{Blocked, Fault, Go, Done}
 use Rattle.meaning.specs.Table.{every}
+use Rattle.meaning.specs.Limits.{mostThreads, mostWord}
 use Rattle.meaning.specs.Store.{Store, idle}
-use Rattle.meaning.specs.Holding.{free, heldBy, named}
-use Rattle.meaning.specs.Step.{onward, setC, block, nothing, worn, answer, touches, heads, perform}
+use Rattle.meaning.specs.Holding.{free, heldBy, mark, held, admits, proper, named}
+use Rattle.meaning.specs.Step.{onward, setC, block, nothing, onLocks, onOwn, worn, answer, sees as seesContent, touches, heads, perform}
 use Rattle.meaning.specs.Needs.{Need, met, allMet, Asks, takes-H, takes-N, needs, no-line, asks, fails, waits}
 use Rattle.meaning.proofs.Base.Words.{either-way, clash, every-at, all-every, and-left, and-right, named-below}
 use Rattle.meaning.proofs.Base.Searches.{finds, finds-nobody, Lowest, lowest-finds, To, to-finds, from-below}
+use Rattle.meaning.proofs.Base.Sets.{joins-word, joins-proper, held-mark, quits-proper}
 use Rattle.meaning.proofs.Invariant.{If, Becomes, Puts}
 
 -- ---- shapes
@@ -108,13 +115,13 @@ shape Nothing = onwards
 shape TakeH = onwards
 shape ReleaseH = onwards
 shape (FinishH a) = stops a
-shape TakeN = onwards
+shape (TakeN κ) = onwards
 shape ReleaseN = onwards
-shape (FinishN a) = stops a
+shape (FinishN κ a) = stops a
 shape OwnHeaders = onwards
 shape LetGoHeaders = onwards
-shape (Own b) = onwards
-shape (LetGo b) = onwards
+shape (Own κ b) = onwards
+shape (LetGo κ b) = onwards
 shape (GoIfMapped l) = rewrites l
 shape (GoIfUnmapped l) = jumps l
 shape (EmptyIfUnmapped l) = empties l
@@ -140,9 +147,26 @@ pub record Quiet (e : Effect) : Type 0 where
 
 -- ---- bounds
 
+-- an amount m may be added to word w at entry k of so many, or taken off it: it stays a word, and proper for so many threads
+pub record Added (size threads k w m : ℕ) : Type 0 where
+  pub low : k < size
+  pub fits : w + m ≤ mostWord
+  pub stays : proper threads w ≡ true → proper threads (w + m) ≡ true
+
+pub record TakenOff (size threads k w m : ℕ) : Type 0 where
+  pub low : k < size
+  pub fits : m ≤ w
+  pub stays : proper threads w ≡ true → proper threads (w - m) ≡ true
+
+abbrev pub Passable : ℕ → ℕ → (ℕ → ℕ) → Pass → Type 0
+Passable size threads f Leave = Unit {0}
+Passable size threads f (Plus k m) = Added size threads k (f k) m
+Passable size threads f (Minus k m) = TakenOff size threads k (f k) m
+
 -- thread t is one of the store's, and the numbers near its line are in bounds: its registers n, p, q and h, n's entry of the map and p's header
 pub record NearBounded (s : Store) (t : ℕ) (r : Thread) : Type 0 where
   pub thread : t < s .threads
+  pub few : s .threads ≤ mostThreads
   pub n : r .n < s .numbers
   pub p : r .p < s .blocks
   pub q : r .q < s .blocks
@@ -159,10 +183,10 @@ pub record Bounded (s : Store) (r : Thread) (e : Effect) : Type 0 where
   pub lock : Becomes (e .lock) (λ w. w ≤ s .threads)
   pub owner : Becomes (e .owner) (λ w. w ≤ s .threads)
   pub map : Puts (e .map) (λ k w. (k < s .numbers) × (w ≤ s .blocks))
-  pub locks : Puts (e .locks) (λ k w. (k < s .numbers) × (w ≤ s .threads))
+  pub locks : Passable (s .numbers) (s .threads) (s .locks) (e .locks)
   pub header : Puts (e .header) (λ m w. (m < s .blocks) × (w ≤ s .numbers))
   pub content : Puts (e .content) (λ m w. m < s .blocks)
-  pub own : Puts (e .own) (λ m w. (m < s .blocks) × (w ≤ s .threads))
+  pub own : Passable (s .blocks) (s .threads) (s .own) (e .own)
 
 -- register c, the contents and what wear comes to are at most a word
 pub record NearWords (s : Store) (r : Thread) (most : ℕ) : Type 0 where
@@ -194,7 +218,7 @@ wearing-low block-of-n s r most N =
 -- no need of the act is unmet, and it doesn't wait
 pub record Ready (s : Store) (t : ℕ) (r : Thread) (a : Act) : Type 0 where
   pub met : fails s t r (asks a) ≡ false
-  pub unblocked : waits s r (asks a) ≡ false
+  pub unblocked : waits s t r (asks a) ≡ false
 
 -- thread t with record r goes on with r′ and an effect, by act a
 pub record Onto (a : Act) (s : Store) (t : ℕ) (r r′ : Thread) (e : Effect) : Type 0 where
@@ -221,12 +245,51 @@ pub record Stops (a : Act) (s : Store) (t : ℕ) (r : Thread) (value : ℕ) (e :
   pub low : (most : ℕ) → NearWords s r most → value ≤ most
 
 abbrev pub Lands : Act → Store → ℕ → Thread → Verdict → Type 0
-Lands a s t r Blocked = (fails s t r (asks a) ≡ false) × (waits s r (asks a) ≡ true)
-Lands a s t r Fault = (fails s t r (asks a) ≡ true) × (waits s r (asks a) ≡ false)
+Lands a s t r Blocked = (fails s t r (asks a) ≡ false) × (waits s t r (asks a) ≡ true)
+Lands a s t r Fault = (fails s t r (asks a) ≡ true) × (waits s t r (asks a) ≡ false)
 Lands a s t r (Go r′ e) = Onto a s t r r′ e
 Lands a s t r (Done value e) = Stops a s t r value e
 
 -- ---- the first walk
+
+-- so it is with the mark of who is let in, and of who has its place
+joins-added : (κ : Kind) (s : Store) (t : ℕ) (r : Thread) (size k w : ℕ) → NearBounded s t r → k < size → admits κ t w ≡ true →
+    Added size (s .threads) k w (mark κ t)
+joins-added κ s t r size k w N low a =
+    record {
+      low = low;
+      fits = joins-word κ t w (omega (arith, N .thread, N .few)) a;
+      stays = λ is. joins-proper (s .threads) (N .few) w is κ t (N .thread) a;
+    }
+
+quits-taken-off : (κ : Kind) (s : Store) (t : ℕ) (r : Thread) (size k w : ℕ) → NearBounded s t r → k < size → held κ t w ≡ true →
+    TakenOff size (s .threads) k w (mark κ t)
+quits-taken-off κ s t r size k w N low h =
+    record { low = low; fits = held-mark κ t w h; stays = λ is. quits-proper (s .threads) (N .few) w is κ t h }
+
+block-low : (b : Reg) (s : Store) (t : ℕ) (r : Thread) → NearBounded s t r → block b r < s .blocks
+block-low P s t r N = N .p
+block-low Q s t r N = N .q
+
+-- so those lines stay in bounds that take, release, own and let go as either kind
+module _ (κ : Kind) (s : Store) (t : ℕ) (r r′ : Thread) (stays : NearBounded s t r → Bounded s r′ nothing) where
+  locks-bounded : (c : Pass) → (NearBounded s t r → Passable (s .numbers) (s .threads) (s .locks) c) → NearBounded s t r → Bounded s r′ (onLocks c)
+  locks-bounded c fits N = let B = stays N in let x = fits N in search arith
+
+  own-bounded : (c : Pass) → (NearBounded s t r → Passable (s .blocks) (s .threads) (s .own) c) → NearBounded s t r → Bounded s r′ (onOwn c)
+  own-bounded c fits N = let B = stays N in let x = fits N in search arith
+
+  lock-taken : admits κ t (s .locks (r .n)) ≡ true → NearBounded s t r → Bounded s r′ (onLocks (Plus (r .n) (mark κ t)))
+  lock-taken a = locks-bounded _ (λ N. joins-added κ s t r (s .numbers) (r .n) (s .locks (r .n)) N (N .n) a)
+
+  lock-given : held κ t (s .locks (r .n)) ≡ true → NearBounded s t r → Bounded s r′ (onLocks (Minus (r .n) (mark κ t)))
+  lock-given h = locks-bounded _ (λ N. quits-taken-off κ s t r (s .numbers) (r .n) (s .locks (r .n)) N (N .n) h)
+
+  block-taken : (b : Reg) → admits κ t (s .own (block b r)) ≡ true → NearBounded s t r → Bounded s r′ (onOwn (Plus (block b r) (mark κ t)))
+  block-taken b a = own-bounded _ (λ N. joins-added κ s t r (s .blocks) (block b r) (s .own (block b r)) N (block-low b s t r N) a)
+
+  block-given : (b : Reg) → held κ t (s .own (block b r)) ≡ true → NearBounded s t r → Bounded s r′ (onOwn (Minus (block b r) (mark κ t)))
+  block-given b h = own-bounded _ (λ N. quits-taken-off κ s t r (s .blocks) (block b r) (s .own (block b r)) N (block-low b s t r N) h)
 
 -- some block of the first k is free where the search finds one, and none where it finds nobody
 some-free : (header : ℕ → ℕ) (k m : ℕ) → m < k → free (header m) ≡ true → every k (λ m. not (free (header m))) ≡ false
@@ -283,15 +346,29 @@ lands Nothing s t r = search
 lands TakeH s t r = either-way (free (s .lock)) (λ f. rw f (search (inl, arith))) (λ f. rw f search)
 lands ReleaseH s t r = either-way (heldBy t (s .lock)) (λ f. rw f (search (inl, arith))) (λ f. rw f search)
 lands (FinishH a) s t r = either-way (heldBy t (s .lock)) (λ f. rw f (search (arith, answer-low a s r))) (λ f. rw f search)
-lands TakeN s t r = either-way (free (s .locks (r .n))) (λ f. rw f (search (inl, arith))) (λ f. rw f search)
-lands ReleaseN s t r = either-way (heldBy t (s .locks (r .n))) (λ f. rw f (search (inl, arith))) (λ f. rw f search)
-lands (FinishN a) s t r = either-way (heldBy t (s .locks (r .n))) (λ f. rw f (search (arith, answer-low a s r))) (λ f. rw f search)
+lands (TakeN κ) s t r =
+    either-way (admits κ t (s .locks (r .n)))
+    (λ f. let x = lock-taken κ s t r (onward r) (search arith) f in rw f (search (inl, arith))) (λ f. rw f search)
+lands ReleaseN s t r =
+    either-way (held Writer t (s .locks (r .n)))
+    (λ f. let x = lock-given Writer s t r (onward r) (search arith) f in rw f (search (inl, arith))) (λ f. rw f search)
+lands (FinishN κ a) s t r =
+    either-way (held κ t (s .locks (r .n)))
+    (λ f. let x = lock-given κ s t r idle (search arith) f in rw f (search (arith, answer-low a s r))) (λ f. rw f search)
 lands OwnHeaders s t r = either-way (free (s .owner)) (λ f. rw f (search (inl, arith))) (λ f. rw f search)
 lands LetGoHeaders s t r = either-way (heldBy t (s .owner)) (λ f. rw f (search (inl, arith))) (λ f. rw f search)
-lands (Own P) s t r = either-way (free (s .own (block P r))) (λ f. rw f (search (inl, arith))) (λ f. rw f search)
-lands (Own Q) s t r = either-way (free (s .own (block Q r))) (λ f. rw f (search (inl, arith))) (λ f. rw f search)
-lands (LetGo P) s t r = either-way (heldBy t (s .own (block P r))) (λ f. rw f (search (inl, arith))) (λ f. rw f search)
-lands (LetGo Q) s t r = either-way (heldBy t (s .own (block Q r))) (λ f. rw f (search (inl, arith))) (λ f. rw f search)
+lands (Own κ P) s t r =
+    either-way (admits κ t (s .own (block P r)))
+    (λ f. let x = block-taken κ s t r (onward r) (search arith) P f in rw f (search (inl, arith))) (λ f. rw f search)
+lands (Own κ Q) s t r =
+    either-way (admits κ t (s .own (block Q r)))
+    (λ f. let x = block-taken κ s t r (onward r) (search arith) Q f in rw f (search (inl, arith))) (λ f. rw f search)
+lands (LetGo κ P) s t r =
+    either-way (held κ t (s .own (block P r)))
+    (λ f. let x = block-given κ s t r (onward r) (search arith) P f in rw f (search (inl, arith))) (λ f. rw f search)
+lands (LetGo κ Q) s t r =
+    either-way (held κ t (s .own (block Q r)))
+    (λ f. let x = block-given κ s t r (onward r) (search arith) Q f in rw f (search (inl, arith))) (λ f. rw f search)
 lands (GoIfMapped l) s t r = either-way (free (s .map (r .n))) (λ f. rw f (search (inl, arith))) (λ f. rw f (search (inr, arith, named-below)))
 lands (GoIfUnmapped l) s t r = either-way (free (s .map (r .n))) (λ f. rw f (search (inr, arith))) (λ f. rw f (search (inl, arith, named-below)))
 lands (EmptyIfUnmapped l) s t r = either-way (free (s .map (r .n))) (λ f. rw f (search (inr, arith))) (λ f. rw f (search (inl, arith, named-below)))
@@ -305,7 +382,7 @@ lands WriteHeaderN s t r = either-way (heads s t (r .p)) (λ f. rw f (search (in
 lands WriteHeaderH s t r = either-way (heads s t (r .q)) (λ f. rw f (search (inl, arith, both-met))) (λ f. rw f (search both-unmet))
 lands FreeHeader s t r = either-way (heads s t (r .p)) (λ f. rw f (search (inl, arith, both-met))) (λ f. rw f (search both-unmet))
 lands EmptyContent s t r = either-way (touches s t (r .p)) (λ f. rw f (search (inl, arith, both-met))) (λ f. rw f (search both-unmet))
-lands ReadContent s t r = either-way (touches s t (r .p)) (λ f. rw f (search (inl, arith, both-met, read-low))) (λ f. rw f (search both-unmet))
+lands ReadContent s t r = either-way (seesContent s t (r .p)) (λ f. rw f (search (inl, arith, both-met, read-low))) (λ f. rw f (search both-unmet))
 lands (WriteContent P) s t r = either-way (touches s t (block P r)) (λ f. rw f (search (inl, arith, both-met))) (λ f. rw f (search both-unmet))
 lands (WriteContent Q) s t r = either-way (touches s t (block Q r)) (λ f. rw f (search (inl, arith, both-met))) (λ f. rw f (search both-unmet))
 lands (MapTo P) s t r = search (inl, arith)
@@ -323,10 +400,10 @@ module _ (a : Act) (s : Store) (t : ℕ) (r : Thread) where
       faults (Go r′ e) l f = clash f (l .ready .met)
       faults (Done value e) l f = clash f (l .ready .met)
 
-  pub blocks-exactly : (perform a s t r ≡ Blocked) ↔ (waits s r (asks a) ≡ true)
+  pub blocks-exactly : (perform a s t r ≡ Blocked) ↔ (waits s t r (asks a) ≡ true)
   blocks-exactly = (λ x. subst (Lands a s t r) x (lands a s t r) .1, blocks (perform a s t r) (lands a s t r))
     where
-      blocks : (v : Verdict) → Lands a s t r v → waits s r (asks a) ≡ true → v ≡ Blocked
+      blocks : (v : Verdict) → Lands a s t r v → waits s t r (asks a) ≡ true → v ≡ Blocked
       blocks Blocked l w = refl
       blocks Fault l w = clash w (l .1)
       blocks (Go r′ e) l w = clash w (l .ready .unblocked)
@@ -339,21 +416,21 @@ module _ (a : Act) (s : Store) (t : ℕ) (r : Thread) where
   was-ready b x =
       record {
         met = unfaulted x;
-        unblocked = either-way (waits s r (asks a)) (λ f. absurd (b (blocks-exactly .1 f))) (λ f. f);
+        unblocked = either-way (waits s t r (asks a)) (λ f. absurd (b (blocks-exactly .1 f))) (λ f. f);
       }
 
 -- it takes a lock; who waits is about to
 abbrev pub isTake : Asks → Bool
 isTake takes-H = true
-isTake takes-N = true
+isTake (takes-N κ) = true
 isTake (needs l) = false
 isTake no-line = false
 
-pub waits-take : (s : Store) (r : Thread) (a : Asks) → waits s r a ≡ true → isTake a ≡ true
-waits-take s r takes-H w = refl
-waits-take s r takes-N w = refl
-waits-take s r (needs l) w = w
-waits-take s r no-line w = w
+pub waits-take : (s : Store) (t : ℕ) (r : Thread) (a : Asks) → waits s t r a ≡ true → isTake a ≡ true
+waits-take s t r takes-H w = refl
+waits-take s t r (takes-N κ) w = refl
+waits-take s t r (needs l) w = w
+waits-take s t r no-line w = w
 
 -- ---- the second walk
 
@@ -375,7 +452,7 @@ AllGranted s t r (x ∷ l) = (met s t r x ≡ true) × AllGranted s t r l
 
 abbrev Granted : Store → ℕ → Thread → Asks → Type 0
 Granted s t r takes-H = free (s .lock) ≡ true
-Granted s t r takes-N = free (s .locks (r .n)) ≡ true
+Granted s t r (takes-N κ) = admits κ t (s .locks (r .n)) ≡ true
 Granted s t r (needs l) = AllGranted s t r l
 Granted s t r no-line = ⊥
 
@@ -383,9 +460,9 @@ all-granted : (s : Store) (t : ℕ) (r : Thread) (l : List Need) → allMet s t 
 all-granted s t r [] e = tt
 all-granted s t r (x ∷ l) e = (and-left (met s t r x) _ e, all-granted s t r l (and-right (met s t r x) _ e))
 
-granted : (s : Store) (t : ℕ) (r : Thread) (a : Asks) → fails s t r a ≡ false → waits s r a ≡ false → Granted s t r a
+granted : (s : Store) (t : ℕ) (r : Thread) (a : Asks) → fails s t r a ≡ false → waits s t r a ≡ false → Granted s t r a
 granted s t r takes-H m f = not-false (free (s .lock)) f
-granted s t r takes-N m f = not-false (free (s .locks (r .n))) f
+granted s t r (takes-N κ) m f = not-false (admits κ t (s .locks (r .n))) f
 granted s t r (needs l) m f = all-granted s t r l (not-false (allMet s t r l) m)
 granted s t r no-line m f = clash refl m
 
@@ -397,13 +474,13 @@ module _ (s s′ : Store) (t : ℕ) (r : Thread) (blocks : s′ .blocks ≡ s .b
   deeds TakeH l g g′ = rw (g, g′)
   deeds ReleaseH l g g′ = rw (g .0, g′ .0)
   deeds (FinishH a) l g g′ = rw (g .0, g′ .0)
-  deeds TakeN l g g′ = rw (g, g′)
+  deeds (TakeN κ) l g g′ = rw (g, g′)
   deeds ReleaseN l g g′ = rw (g .0, g′ .0)
-  deeds (FinishN a) l g g′ = rw (g .0, g′ .0)
+  deeds (FinishN κ a) l g g′ = rw (g .0, g′ .0)
   deeds OwnHeaders l g g′ = rw (g .0, g′ .0)
   deeds LetGoHeaders l g g′ = rw (g .0, g′ .0)
-  deeds (Own b) l g g′ = rw (g .0, g′ .0)
-  deeds (LetGo b) l g g′ = rw (g .0, g′ .0)
+  deeds (Own κ b) l g g′ = rw (g .0, g′ .0)
+  deeds (LetGo κ b) l g g′ = rw (g .0, g′ .0)
   deeds (GoIfMapped k) l g g′ = rw (l .0, l .1 .0)
   deeds (GoIfUnmapped k) l g g′ = rw (l .0)
   deeds (EmptyIfUnmapped k) l g g′ = rw (l .0)

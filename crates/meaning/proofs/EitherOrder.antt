@@ -1,34 +1,39 @@
--- Either order, over stores: two threads that can both step, and whose next lines don't take the same lock, may step in either order. Each
--- answers the same, and the store is the same at the end.
--- What a step changes, its thread has what guards it (`Guards`), so two steps change no common word; what a step looks at, its thread
--- has what guards it too (tested at each line), so it comes to the same after the other one.
+-- Either order, over stores: two threads that can both step, and whose next lines don't take the same lock, unless both take it for reading, may
+-- step in either order. Each answers the same, and the store is the same at the end.
+-- What a step changes, its thread has what guards it (`Guards`), so two steps change no common word but where both come to one set or go from it,
+-- which is adding and taking off; what a step looks at, its thread has what guards it too (tested at each line), so it comes to the same
+-- after the other one.
 -- Assumes nothing.
 use mathlib.Core.Path.{_≡_, refl, sym, ap, _∙_, subst, fun-ext}
-use mathlib.Core.Bool.{Bool, true, false, _&&_, _||_, or-true}
+use mathlib.Core.Bool.{Bool, true, false, not, _&&_, _||_, or-true, and-comm}
 use mathlib.Core.List.{List, [], _∷_}
-use Prim.Native.Nat.{ℕ, _<_}
+use Prim.Native.Nat.{ℕ, _+_, _-_, _<_}
 use native.Mathlib.Omega.{arith}
 use lib.Dec.{eqb, leb}
-use borrow.Author.Tests.{not-false, eqb-true, eq-eqb, ne-eqb, lt-ltb}
+use borrow.Author.Tests.{not-false, eqb-true, eqb-false, ne-eqb, lt-ltb}
+use Rattle.meaning.specs.declared.Kind.{Kind}
+use Rattle.meaning.specs.declared.Kind.the-variants.{Reader, Writer}
 use Rattle.meaning.specs.declared.Thread.{Thread}
 use Rattle.meaning.specs.declared.Word.{Word}
 use Rattle.meaning.specs.declared.Word.the-variants.{Stay, Become}
 use Rattle.meaning.specs.declared.Update.{Update}
 use Rattle.meaning.specs.declared.Update.the-variants.{Keep, Put}
+use Rattle.meaning.specs.declared.Pass.{Pass}
 use Rattle.meaning.specs.declared.Effect.{Effect}
 use Rattle.meaning.specs.declared.Verdict.{Verdict}
 use Rattle.meaning.specs.declared.Verdict.the-variants.{Blocked, Fault, Go, Done}
 use Rattle.meaning.specs.Table.{upd}
 use Rattle.meaning.specs.Numbers.{WENT, FINISHED}
 use Rattle.meaning.specs.Store.{Store, idle}
-use Rattle.meaning.specs.Holding.{free, by, heldBy}
+use Rattle.meaning.specs.Holding.{free, by, heldBy, mark, held, admits}
 use Rattle.meaning.specs.Programs.{actAt}
-use Rattle.meaning.specs.Step.{verdict, become, put, apply}
+use Rattle.meaning.specs.Step.{verdict, become, put, came, apply}
 use Rattle.meaning.specs.Needs.{Asks, takes-H, takes-N, needs, no-line, asks, waits}
 use Rattle.meaning.specs.Call.{Reply, step, callStore, told, reply, isIdle}
-use Rattle.meaning.proofs.Base.Words.{either-way, by-held, clash, and-left, and-right, or-way, by-other, held-once, held-not-free, upd-same, upd-other, upd-each}
+use Rattle.meaning.proofs.Base.Words.{same, eqb-swap, either-way, by-held, clash, and-left, and-right, by-other, held-once, held-not-free, upd-same, upd-other, upd-each}
 use Rattle.meaning.proofs.Base.Schedules.{replyOf, by-step}
-use Rattle.meaning.proofs.Invariant.{takesH, takesN, takesLock, holdsH, ownsHeaders, ownsP, Passes, takes, gives-up, Becomes, Puts, Guards, GuardsMap, GuardsHeader, GuardsContent, GuardsWear, Inv}
+use Rattle.meaning.proofs.Base.Sets.{sameKind, kind-is, bothRead, held-mark, writer-alone, joins-admits, quits-admits}
+use Rattle.meaning.proofs.Invariant.{takesH, takesN, kind, takesLock, holdsH, ownsHeaders, ownsP, Passes, takes, gives-up, Joins, leaves-all, joins, quits, Becomes, Puts, Guards, GuardsMap, GuardsHeader, GuardsContent, GuardsWear, Inv}
 use Rattle.meaning.proofs.Invariant.Keeping.{reads-map, everyLine, everywhere, standing, p-owned, Moves, moves-inv, map-kept, header-kept, wear-kept, content-kept}
 use Rattle.meaning.proofs.Acts.{Sight, map-of-n, headers, all-wear, content-of-p, shape, Ready, was-ready, unfaulted, Same, SameSights, same-deed}
 use Rattle.meaning.proofs.Lines.{Fine}
@@ -37,9 +42,9 @@ use Rattle.meaning.proofs.Progress.{no-fault, CanStep}
 
 -- ---- what is said
 
--- both are about to take H, or the lock of one number
+-- both are about to take H, or the lock of one number unless both take it for reading
 abbrev pub sameTake : Thread → Thread → Bool
-sameTake r r′ = takesH r && takesH r′ || takesN r′ && takesLock r (r′ .n)
+sameTake r q = takesH r && takesH q || takesN q && takesN r && eqb (r .n) (q .n) && not (bothRead (kind r) (kind q))
 
 pub record Swaps (s : Store) (t u : ℕ) : Type 0 where
   pub number : callStore (callStore s (step u) .after) (step t) .number ≡ callStore s (step t) .number
@@ -64,7 +69,7 @@ allGuarded r (x ∷ l) = guarded r x && allGuarded r l
 -- the flag of a thread that takes a lock
 abbrev taking : Thread → Asks → Bool
 taking r takes-H = takesH r
-taking r takes-N = takesN r
+taking r (takes-N κ) = takesN r && sameKind κ (kind r)
 taking r (needs l) = true
 taking r no-line = true
 
@@ -82,12 +87,29 @@ free-kept about t Stay w x never f = f
 free-kept about t (Become w′) w (takes _ y _) never f = absurd (never y)
 free-kept about t (Become w′) w (gives-up _ e) never f = rw e
 
-entry-free-kept : (about : ℕ → Type 0) (t : ℕ) (c : Update) (f : ℕ → ℕ) → Puts c (λ k. Passes (about k) t (f k)) →
-    (k : ℕ) → (about k → ⊥) → free (f k) ≡ true → free (put c f k) ≡ true
-entry-free-kept about t Keep f x k = λ never y. y
-entry-free-kept about t (Put i w) f x k =
-    upd-each (λ k w. (about k → ⊥) → free (f k) ≡ true → free w ≡ true) f i w
-    (free-kept (about i) t (Become w) (f i) x) (λ k _ _ y. y) k
+-- a lock that lets u in lets it in after t's coming or going, unless t is about to take it and not both read
+entry-admits-kept : (about : Kind → ℕ → Type 0) (t u : ℕ) → (t ≡ u → ⊥) → (c : Pass) (f : ℕ → ℕ) → Joins about t f c → (κ : Kind) (k : ℕ) →
+    ((κ′ : Kind) → about κ′ k → bothRead κ′ κ ≡ true) → admits κ u (f k) ≡ true → admits κ u (put (came f c) f k) ≡ true
+entry-admits-kept about t u apart c f leaves-all κ k = λ _ a. a
+entry-admits-kept about t u apart c f (joins κ′ i b y x) κ k =
+    upd-each (λ k w. ((κ′ : Kind) → about κ′ k → bothRead κ′ κ ≡ true) → admits κ u (f k) ≡ true → admits κ u w ≡ true) f i (f i + mark κ′ t)
+    (λ beside a. joins-admits κ′ κ t u (f i) b apart y a (beside κ′ x)) (λ k _ _ a. a) k
+entry-admits-kept about t u apart c f (quits κ′ i h) κ k =
+    upd-each (λ k w. ((κ′ : Kind) → about κ′ k → bothRead κ′ κ ≡ true) → admits κ u (f k) ≡ true → admits κ u w ≡ true) f i (f i - mark κ′ t)
+    (λ _ a. quits-admits κ′ κ t u (f i) apart h a) (λ k _ _ a. a) k
+
+-- where two threads are not about to take the same lock, a number's lock that both are about to take they take for reading
+beside : (r q : Thread) (κ κ′ : Kind) → sameTake r q ≡ false → takesLock κ r (q .n) ≡ true → (takesN q && sameKind κ′ (kind q)) ≡ true →
+    bothRead κ κ′ ≡ true
+beside r q κ κ′ others x y =
+    let mine = and-left (takesN r && sameKind κ (kind r)) _ x in
+    let e = kind-is κ (kind r) (and-right (takesN r) _ mine) in
+    let e′ = kind-is κ′ (kind q) (and-right (takesN q) _ y) in
+    either-way (bothRead κ κ′) (λ z. z)
+    (λ z.
+    let not-both : bothRead (kind r) (kind q) ≡ false = sym (λ i. bothRead (e i) (e′ i)) ∙ z in
+    clash (rw (and-left (takesN r) _ mine, and-left (takesN q) _ y, and-right (takesN r && sameKind κ (kind r)) _ x, not-both)
+    (or-true (takesH r && takesH q))) others)
 
 module _ (s : Store) (I : Inv s) (t : ℕ) (r′ : Thread) (e : Effect) (M : Moves s t (s .thread t) r′ e) (u : ℕ)
     (apart : t ≡ u → ⊥) (others : sameTake (s .thread t) (s .thread u) ≡ false) where
@@ -109,11 +131,11 @@ module _ (s : Store) (I : Inv s) (t : ℕ) (r′ : Thread) (e : Effect) (M : Mov
   lock-free l =
       free-kept (takesH (s .thread t) ≡ true) t (e .lock) (s .lock) (M .guards .lock) (λ z. clash (rw (z, l)) others)
 
-  locks-free : takesN (s .thread u) ≡ true → free (s .locks (s .thread u .n)) ≡ true →
-      free (put (e .locks) (s .locks) (s .thread u .n)) ≡ true
-  locks-free l =
-      entry-free-kept (λ k. takesLock (s .thread t) k ≡ true) t (e .locks) (s .locks) (M .guards .locks) (s .thread u .n)
-      (λ z. clash (rw (l, z) (or-true (takesH (s .thread t) && takesH (s .thread u)))) others)
+  locks-admit : (κ : Kind) → (takesN (s .thread u) && sameKind κ (kind (s .thread u))) ≡ true → admits κ u (s .locks (s .thread u .n)) ≡ true →
+      admits κ u (put (came (s .locks) (e .locks)) (s .locks) (s .thread u .n)) ≡ true
+  locks-admit κ l =
+      entry-admits-kept (λ κ k. takesLock κ (s .thread t) k ≡ true) t u apart (e .locks) (s .locks) (M .guards .locks) κ (s .thread u .n)
+      (λ κ′ z. beside (s .thread t) (s .thread u) κ′ κ others z l)
 
   -- so what its act looks at is the same, and what it takes still free
   sight-alike : (x : Sight) → guarded (standing (s .thread u .op) (s .thread u .line)) x ≡ true →
@@ -131,10 +153,10 @@ module _ (s : Store) (I : Inv s) (t : ℕ) (r′ : Thread) (e : Effect) (M : Mov
     sights-alike l (and-right (guarded (standing (s .thread u .op) (s .thread u .line)) x) _ g),
   )
 
-  still-unblocked : (a : Asks) → taking (standing (s .thread u .op) (s .thread u .line)) a ≡ true → waits s (s .thread u) a ≡ false →
-      waits (apply s t r′ e) (s .thread u) a ≡ false
+  still-unblocked : (a : Asks) → taking (standing (s .thread u .op) (s .thread u .line)) a ≡ true → waits s u (s .thread u) a ≡ false →
+      waits (apply s t r′ e) u (s .thread u) a ≡ false
   still-unblocked takes-H g w = rw (lock-free g (not-false (free (s .lock)) w))
-  still-unblocked takes-N g w = rw (locks-free g (not-false (free (s .locks (s .thread u .n))) w))
+  still-unblocked (takes-N κ) g w = rw (locks-admit κ g (not-false (admits κ u (s .locks (s .thread u .n))) w))
   still-unblocked (needs l) g w = w
   still-unblocked no-line g w = w
 
@@ -167,6 +189,18 @@ upds-commute f i j v w apart =
     fun-ext (upd-each (λ k x. x ≡ upd (upd f j w) i v k) (upd f i v) j w
     (sym (upd-other (upd f j w) i j v apart ∙ upd-same f j w)) (λ k others. rw (ne-eqb j k others)))
 
+-- entries changed by two functions, which commute at an entry that both change
+changes-commute : (f : ℕ → ℕ) (i j : ℕ) (g h : ℕ → ℕ) → (i ≡ j → h (g (f i)) ≡ g (h (f i))) →
+    upd (upd f i (g (f i))) j (h (upd f i (g (f i)) j)) ≡ upd (upd f j (h (f j))) i (g (upd f j (h (f j)) i))
+changes-commute f i j g h same-entry =
+    either-way (eqb i j)
+    (λ x.
+    let e = eqb-true i j x in
+    rw (← e, same i) (fun-ext (λ k. either-way (eqb i k) (λ y. rw y (same-entry e)) (λ y. rw y))))
+    (λ x.
+    let apart = eqb-false i j x in
+    rw (x, ne-eqb j i (λ e. apart (sym e))) (upds-commute f i j (g (f i)) (h (f j)) apart))
+
 module _ (t u : ℕ) (apart : t ≡ u → ⊥) where
   -- no word passes from both: a, b and b′ are what they were about to take
   passes-apart : {a b b′ : Type 0} (w v v′ : ℕ) → Passes a t w v → Passes b u w v′ → Passes b′ u v v′ → ⊥
@@ -181,13 +215,18 @@ module _ (t u : ℕ) (apart : t ≡ u → ⊥) where
   words-commute a b (Become v) Stay w x y z = refl
   words-commute a b (Become v) (Become v′) w x y z = absurd (passes-apart w v v′ x y z)
 
-  entries-commute : (a b : ℕ → Type 0) (c d : Update) (f : ℕ → ℕ) → Puts c (λ k. Passes (a k) t (f k)) →
-      Puts d (λ k. Passes (b k) u (f k)) → Puts d (λ k. Passes (b k) u (put c f k)) → put d (put c f) ≡ put c (put d f)
-  entries-commute a b Keep d f x y z = refl
-  entries-commute a b (Put i v) Keep f x y z = refl
-  entries-commute a b (Put i v) (Put j w) f x y z =
-      upds-commute f i j v w
-      (λ e. passes-apart (f i) v w x (subst (λ (k : ℕ). Passes (b k) u (f k) w) (sym e) y) (rw (eq-eqb i j e) at z))
+  -- of locks or owners an amount is added and one taken off that is there: in either order it comes to the same word
+  pub entries-commute : (a b : Kind → ℕ → Type 0) (c d : Pass) (f : ℕ → ℕ) → Joins a t f c → Joins b u f d →
+      put (came (put (came f c) f) d) (put (came f c) f) ≡ put (came (put (came f d) f) c) (put (came f d) f)
+  entries-commute a b c d f leaves-all y = refl
+  entries-commute a b c d f (joins κ i _ _ _) leaves-all = refl
+  entries-commute a b c d f (quits κ i _) leaves-all = refl
+  entries-commute a b c d f (joins κ i _ _ _) (joins κ′ j _ _ _) = changes-commute f i j (λ w. w + mark κ t) (λ w. w + mark κ′ u) (λ e. omega arith)
+  entries-commute a b c d f (joins κ i _ _ _) (quits κ′ j h) =
+      changes-commute f i j (λ w. w + mark κ t) (λ w. w - mark κ′ u) (λ e. let m = held-mark κ′ u (f j) h in rw e (omega arith))
+  entries-commute a b c d f (quits κ i h) (joins κ′ j _ _ _) =
+      changes-commute f i j (λ w. w - mark κ t) (λ w. w + mark κ′ u) (λ e. let m = held-mark κ t (f i) h in omega arith)
+  entries-commute a b c d f (quits κ i _) (quits κ′ j _) = changes-commute f i j (λ w. w - mark κ t) (λ w. w - mark κ′ u) (λ e. omega arith)
 
   -- g and h guard the entries, and nobody has both
   tables-commute : (g h : ℕ → Type 0) → ((k : ℕ) → g k → h k → ⊥) → (c d : Update) (f : ℕ → ℕ) → Puts c (λ k _. g k) →
@@ -202,8 +241,8 @@ module _ (t u : ℕ) (apart : t ≡ u → ⊥) where
       let H-once : heldBy t (s .lock) ≡ true → heldBy u (s .lock) ≡ true → ⊥ = λ x y. apart (held-once t u (s .lock) x y) in
       let headers-once : heldBy t (s .owner) ≡ true → heldBy u (s .owner) ≡ true → ⊥ =
       λ x y. apart (held-once t u (s .owner) x y) in
-      let block-once : (m : ℕ) → heldBy t (s .own m) ≡ true → heldBy u (s .own m) ≡ true → ⊥ =
-      λ m x y. apart (held-once t u (s .own m) x y) in
+      let block-once : (m : ℕ) → held Writer t (s .own m) ≡ true → held Writer u (s .own m) ≡ true → ⊥ =
+      λ m x y. apart (writer-alone Writer t u (s .own m) x y) in
       λ i. record {
         threads = s .threads;
         numbers = s .numbers;
@@ -217,8 +256,8 @@ module _ (t u : ℕ) (apart : t ≡ u → ⊥) where
             (s .map)
             (G .map) (K .map) i;
         locks =
-            entries-commute (λ k. takesLock r k ≡ true) (λ k. takesLock q k ≡ true) (c .locks) (d .locks) (s .locks)
-            (G .locks) (K .locks) (L .locks) i;
+            entries-commute (λ κ k. takesLock κ r k ≡ true) (λ κ k. takesLock κ q k ≡ true) (c .locks) (d .locks) (s .locks)
+            (G .locks) (K .locks) i;
         header =
             tables-commute (GuardsHeader s t) (GuardsHeader s u) (λ m x y. headers-once (x .owner) (y .owner)) (c .header)
             (d .header) (s .header) (G .header) (K .header) i;
@@ -228,7 +267,7 @@ module _ (t u : ℕ) (apart : t ≡ u → ⊥) where
         wear =
             tables-commute (GuardsWear s t) (GuardsWear s u) (λ m x y. H-once (x .lock) (y .lock)) (c .wear) (d .wear) (s .wear)
             (G .wear) (K .wear) i;
-        own = entries-commute (λ m. Unit) (λ m. Unit) (c .own) (d .own) (s .own) (G .own) (K .own) (L .own) i;
+        own = entries-commute (λ κ m. Unit) (λ κ m. Unit) (c .own) (d .own) (s .own) (G .own) (K .own) i;
       }
 
 -- ---- a step that goes
@@ -336,16 +375,12 @@ module _ (s : Store) (I : Inv s) (t : ℕ) (r′ : Thread) (e : Effect) (M : Mov
 
 pub sameTake-sym : (r q : Thread) → sameTake r q ≡ false → sameTake q r ≡ false
 sameTake-sym r q x =
-    either-way (sameTake q r)
-    (λ y. clash (or-way (takesH q && takesH r) (takesN r && takesLock q (r .n)) y
-    (λ z. rw (and-left (takesH q) _ z, and-right (takesH q) (takesH r) z))
-    (λ z.
-    let n : takesN r ≡ true = and-left (takesN r) _ z in
-    let l : takesLock q (r .n) ≡ true = and-right (takesN r) _ z in
-    let m : takesN q ≡ true = and-left (takesN q) _ l in
-    let e : q .n ≡ r .n = eqb-true (q .n) (r .n) (and-right (takesN q) _ l) in
-    rw (n, m, eq-eqb (r .n) (q .n) (sym e)) (or-true (takesH r && takesH q)))) x)
-    (λ y. y)
+    rw (
+      and-comm (takesH q) (takesH r),
+      and-comm (takesN r) (takesN q),
+      eqb-swap (q .n) (r .n),
+      and-comm (sameKind (kind q) Reader) (sameKind (kind r) Reader),
+    ) x
 
 pub either-order : (s : Store) → Inv s → (t u : ℕ) → (t ≡ u → ⊥) → CanStep s t → CanStep s u →
     sameTake (s .thread t) (s .thread u) ≡ false → Swaps s t u

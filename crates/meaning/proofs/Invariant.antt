@@ -3,8 +3,9 @@
 -- THE TABLE says of a thread, from its operation and line alone, what it holds, owns, is about to take and knows. A range is of lines at
 -- which the thread stands: that line is its next. Lay it beside 01, "The lines": a range opens after the line that takes, owns, looks
 -- up or writes, and closes after the line that releases, lets go or writes again. What the rows are for:
---  * holds and owns. The lock and owner words are these flags (`Holds`). So a line that releases or lets go has what it needs, a line
---    that owns finds nobody there (whoever could own it would have a lock or owner that this thread has), and nobody waits for itself.
+--  * holds and owns. The lock and owner words are these flags (`Holds`): a read holds and owns as a reader, all others as the writer. So a line
+--    that releases or lets go has what it needs, a line that owns is let in (whoever could bar it would have a lock or owner that this thread
+--    has, and not beside it), and nobody waits for itself.
 --  * about to take. Why a thread waits, and which two steps can't be swapped (EitherOrder).
 --  * n unmapped, n on p, n on q. What was looked up at W3, R2 and U3, or read off a header at L5, is still so when it is used.
 --  * p free, q free, p headed, q headed. A content line needs a header; a header is written where none is, so that no number has two
@@ -26,25 +27,30 @@
 pub mod Keeping
 pub mod Sharing
 use mathlib.Core.Path.{_≡_}
-use mathlib.Core.Bool.{Bool, true, false, _&&_, _||_}
+use mathlib.Core.Bool.{Bool, true, false, cond, _&&_, _||_}
 use mathlib.Core.List.{List, [], _∷_, _++_}
 use mathlib.Core.Logic.{_⊎_}
 use Prim.Native.Nat.{ℕ, _≤_, _<_}
 use lib.Dec.{eqb}
 use lib.ListN.{getD}
+use Rattle.meaning.specs.declared.Kind.{Kind}
+use Rattle.meaning.specs.declared.Kind.the-variants.{Reader, Writer}
 use Rattle.meaning.specs.declared.Thread.{Thread}
 use Rattle.meaning.specs.declared.Word.{Word}
 use Rattle.meaning.specs.declared.Word.the-variants.{Stay, Become}
 use Rattle.meaning.specs.declared.Update.{Update}
 use Rattle.meaning.specs.declared.Update.the-variants.{Keep, Put}
+use Rattle.meaning.specs.declared.Pass.{Pass}
+use Rattle.meaning.specs.declared.Pass.the-variants.{Leave, Plus, Minus}
 use Rattle.meaning.specs.declared.Effect.{Effect}
 use Rattle.meaning.specs.declared.Found.the-variants.{At}
-use Rattle.meaning.specs.Limits.{within, inLimits}
+use Rattle.meaning.specs.Limits.{mostThreads, within, inLimits}
 use Rattle.meaning.specs.Store.{Store, idle}
-use Rattle.meaning.specs.Holding.{none, free, by, heldBy, naming}
-use Rattle.meaning.specs.Programs.{WRITE, LEVEL, lastLine}
+use Rattle.meaning.specs.Holding.{none, free, by, heldBy, mark, held, admits, proper, naming}
+use Rattle.meaning.specs.Programs.{WRITE, READ, LEVEL, lastLine}
 use Rattle.meaning.specs.Choosing.{toBlock, leastWorn, fromBlock}
 use Rattle.meaning.specs.Demands.{kept}
+use Rattle.meaning.proofs.Base.Sets.{sameKind}
 
 infix 50 _–_
 -- ---- the table
@@ -175,15 +181,19 @@ abbrev pub If : Bool → Type 0 → Type 0
 If true A = A
 If false A = Unit {0}
 
--- the lock of number k, the block m, the block m whose header and the map disagree: through which register it may be
-abbrev pub takesLock : Thread → ℕ → Bool
-takesLock r k = takesN r && eqb (r .n) k
+-- as what it has its number's lock and its blocks
+abbrev pub kind : Thread → Kind
+kind r = cond (eqb (r .op) READ) Reader Writer
 
-abbrev pub holdsLock : Thread → ℕ → Bool
-holdsLock r k = holdsN r && eqb (r .n) k
+-- the lock of number k, the block m, the block m whose header and the map disagree: as what, and through which register it may be
+abbrev pub takesLock : Kind → Thread → ℕ → Bool
+takesLock κ r k = takesN r && sameKind κ (kind r) && eqb (r .n) k
 
-abbrev pub ownsBlock : Thread → ℕ → Bool
-ownsBlock r m = ownsQ r && eqb (r .q) m || ownsP r && eqb (r .p) m
+abbrev pub holdsLock : Kind → Thread → ℕ → Bool
+holdsLock κ r k = holdsN r && sameKind κ (kind r) && eqb (r .n) k
+
+abbrev pub ownsBlock : Kind → Thread → ℕ → Bool
+ownsBlock κ r m = ownsQ r && sameKind κ (kind r) && eqb (r .q) m || ownsP r && sameKind κ (kind r) && eqb (r .p) m
 
 abbrev pub leadsAstray : Thread → ℕ → Bool
 leadsAstray r m = q-astray r && eqb (r .q) m || p-astray r && eqb (r .p) m
@@ -192,8 +202,8 @@ leadsAstray r m = q-astray r && eqb (r .q) m || p-astray r && eqb (r .p) m
 pub record Holds (s : Store) (v : ℕ) (r : Thread) : Type 0 where
   pub lock : heldBy v (s .lock) ≡ holdsH r
   pub owner : heldBy v (s .owner) ≡ ownsHeaders r
-  pub locks : (k : ℕ) → heldBy v (s .locks k) ≡ holdsLock r k
-  pub own : (m : ℕ) → heldBy v (s .own m) ≡ ownsBlock r m
+  pub locks : (κ : Kind) (k : ℕ) → held κ v (s .locks k) ≡ holdsLock κ r k
+  pub own : (κ : Kind) (m : ℕ) → held κ v (s .own m) ≡ ownsBlock κ r m
 
 -- choosing would give p and q now
 abbrev pub Chosen : Store → Thread → Type 0
@@ -250,26 +260,33 @@ abbrev pub Puts : Update → (ℕ → ℕ → Type 0) → Type 0
 Puts Keep guard = Unit {0}
 Puts (Put i w) guard = guard i w
 
--- a lock or owner word: t takes it where it is free, or gives it up where it is t's; a lock is taken only by who is about to
+-- H or the headers' owner: t takes it where it is free, or gives it up where it is t's; H is taken only by who is about to
 pub data Passes (about : Type 0) (t w w′ : ℕ) : Type 0 where
   takes : free w ≡ true → about → w′ ≡ by t → Passes about t w w′
   gives-up : heldBy t w ≡ true → w′ ≡ none → Passes about t w w′
 
--- a map entry: the headers' owner with the number's lock
+-- locks f of numbers, or owners f of blocks: t joins where the word lets it in, or quits where it has its place; a lock is taken only by who is
+-- about to
+pub data Joins (about : Kind → ℕ → Type 0) (t : ℕ) (f : ℕ → ℕ) : Pass → Type 0 where
+  leaves-all : Joins about t f Leave
+  joins : (κ : Kind) (i : ℕ) → t < mostThreads → admits κ t (f i) ≡ true → about κ i → Joins about t f (Plus i (mark κ t))
+  quits : (κ : Kind) (i : ℕ) → held κ t (f i) ≡ true → Joins about t f (Minus i (mark κ t))
+
+-- a map entry: the headers' owner with the writing of the number's lock
 pub record GuardsMap (s : Store) (t k : ℕ) : Type 0 where
   pub owner : heldBy t (s .owner) ≡ true
-  pub locks : heldBy t (s .locks k) ≡ true
+  pub locks : held Writer t (s .locks k) ≡ true
 
--- a header: the headers' owner with the block
+-- a header: the headers' owner with the writing of the block
 pub record GuardsHeader (s : Store) (t m : ℕ) : Type 0 where
   pub owner : heldBy t (s .owner) ≡ true
-  pub own : heldBy t (s .own m) ≡ true
+  pub own : held Writer t (s .own m) ≡ true
 
--- a content: the block's owner, with the lock of whatever number is mapped to the block or named by its header
+-- a content: the writing of the block, with that of the lock of whatever number is mapped to the block or named by its header
 pub record GuardsContent (s : Store) (t m : ℕ) : Type 0 where
-  pub own : heldBy t (s .own m) ≡ true
-  pub locks : (k : ℕ) → s .map k ≡ naming m → heldBy t (s .locks k) ≡ true
-  pub heads : (k : ℕ) → s .header m ≡ naming k → heldBy t (s .locks k) ≡ true
+  pub own : held Writer t (s .own m) ≡ true
+  pub locks : (k : ℕ) → s .map k ≡ naming m → held Writer t (s .locks k) ≡ true
+  pub heads : (k : ℕ) → s .header m ≡ naming k → held Writer t (s .locks k) ≡ true
 
 -- a wear: H alone
 pub record GuardsWear (s : Store) (t m : ℕ) : Type 0 where
@@ -279,8 +296,8 @@ pub record GuardsWear (s : Store) (t m : ℕ) : Type 0 where
 pub record Guards (s : Store) (t : ℕ) (r : Thread) (e : Effect) : Type 0 where
   pub lock : Becomes (e .lock) (Passes (takesH r ≡ true) t (s .lock))
   pub owner : Becomes (e .owner) (Passes Unit t (s .owner))
-  pub locks : Puts (e .locks) (λ k. Passes (takesLock r k ≡ true) t (s .locks k))
-  pub own : Puts (e .own) (λ m. Passes Unit t (s .own m))
+  pub locks : Joins (λ κ k. takesLock κ r k ≡ true) t (s .locks) (e .locks)
+  pub own : Joins (λ κ m. Unit) t (s .own) (e .own)
   pub map : Puts (e .map) (λ k w. GuardsMap s t k)
   pub header : Puts (e .header) (λ m w. GuardsHeader s t m)
   pub content : Puts (e .content) (λ m w. GuardsContent s t m)
@@ -310,6 +327,9 @@ pub record Inv (s : Store) : Type 0 where
   pub stands : (v : ℕ) → Stands (s .thread v)
   pub past : (v : ℕ) → s .threads ≤ v → s .thread v ≡ idle
   pub holds : (v : ℕ) → Holds s v (s .thread v)
+  -- a number's lock and a block's owner have readers or a writer, and all of them are threads
+  pub locks : (k : ℕ) → proper (s .threads) (s .locks k) ≡ true
+  pub own : (m : ℕ) → proper (s .threads) (s .own m) ≡ true
   pub facts : (v : ℕ) → Facts s (s .thread v)
   pub agrees : Agrees (s .map) (s .header) (s .numbers) (s .blocks)
   -- a header points to a number that is mapped to its block, unless the block is astray

@@ -9,36 +9,40 @@ pub mod Unmap
 pub mod Level
 pub mod EveryLine
 use mathlib.Core.Path.{_≡_, refl, sym, ap, _∙_, subst}
-use mathlib.Core.Bool.{Bool, true, false, not, _||_}
+use mathlib.Core.Bool.{Bool, true, false, not, _&&_, _||_, and-true, and-false}
 use mathlib.Core.List.{[], _∷_}
 use mathlib.Core.Logic.{_⊎_, inl, inr}
-use Prim.Native.Nat.{ℕ, zero, suc, _+_, _<_, _≤_}
+use Prim.Native.Nat.{ℕ, zero, suc, _+_, _-_, _<_, _≤_}
 use native.Mathlib.Omega.{arith}
 use lib.Dec.{eqb}
 use borrow.Author.Tests.{eqb-true, eqb-false, eq-eqb, ne-eqb}
+use Rattle.meaning.specs.declared.Kind.{Kind}
 use Rattle.meaning.specs.declared.Thread.{Thread}
+use Rattle.meaning.specs.declared.Pass.the-variants.{Plus, Minus}
 use Rattle.meaning.specs.declared.Effect.{Effect}
 use Rattle.meaning.specs.declared.Verdict.{Verdict}
 use Rattle.meaning.specs.declared.Verdict.the-variants.{Blocked, Fault, Go, Done}
 use Rattle.meaning.specs.Table.{upd}
+use Rattle.meaning.specs.Limits.{mostThreads}
 use Rattle.meaning.specs.Store.{Store, idle}
-use Rattle.meaning.specs.Holding.{none, free, by, heldBy, naming, named}
+use Rattle.meaning.specs.Holding.{none, free, mark, held, admits, naming, named}
 use Rattle.meaning.specs.Programs.{actAt}
 use Rattle.meaning.specs.Step.{perform, apply}
 use Rattle.meaning.specs.Schedule.{emit, ofManager}
 use Rattle.meaning.specs.Demands.{kept}
 use Rattle.meaning.proofs.Base.Words.{same, either-way, clash, by-held, none-held, naming-once, naming-not-none, naming-not-free, naming-named, named-naming, named-below, upd-each}
-use Rattle.meaning.proofs.Invariant.{takes, gives-up, holdsH, holdsN, ownsP, ownsQ, Holds, Facts, Agrees, Back, Inv}
+use Rattle.meaning.proofs.Base.Sets.{sameKind, joins-self, quits-self}
+use Rattle.meaning.proofs.Invariant.{kind, takes, gives-up, Joins, leaves-all, joins, quits, holdsH, holdsN, ownsP, ownsQ, Holds, Facts, Agrees, Back, Inv}
 use Rattle.meaning.proofs.Manager.View.{status, places, answered, due}
-use Rattle.meaning.proofs.Invariant.Keeping.{p-owned, q-owned, Moves}
+use Rattle.meaning.proofs.Invariant.Keeping.{n-locked, p-owned, q-owned, Moves}
 
 infixr 30 _▸_
 -- ---- what a line must show
 
--- the lock that a thread waits for isn't free; it has none of those that come after that one
-pub data Waits (s : Store) (r : Thread) : Type 0 where
-  for-H : holdsH r ≡ false → holdsN r ≡ false → free (s .lock) ≡ false → Waits s r
-  for-N : holdsN r ≡ false → free (s .locks (r .n)) ≡ false → Waits s r
+-- the lock that a thread waits for isn't free, or doesn't let it in; it has none of those that come after that one
+pub data Waits (s : Store) (t : ℕ) (r : Thread) : Type 0 where
+  for-H : holdsH r ≡ false → holdsN r ≡ false → free (s .lock) ≡ false → Waits s t r
+  for-N : holdsN r ≡ false → admits (kind r) t (s .locks (r .n)) ≡ false → Waits s t r
 
 -- a line that is not the last: the answer to its operation, if it is the manager's, is owed from the last lock on
 pub record GoesOn (s : Store) (t : ℕ) (r r′ : Thread) (e : Effect) : Type 0 where
@@ -52,7 +56,7 @@ pub record Ends (s : Store) (t : ℕ) (r : Thread) (value : ℕ) (e : Effect) : 
 
 -- what a verdict must show of a step of thread t with record r: a fault can't
 abbrev pub Fine : Store → ℕ → Thread → Verdict → Type 0
-Fine s t r Blocked = Waits s r
+Fine s t r Blocked = Waits s t r
 Fine s t r Fault = ⊥
 Fine s t r (Go r′ e) = GoesOn s t r r′ e
 Fine s t r (Done answer e) = Ends s t r answer e
@@ -60,6 +64,7 @@ Fine s t r (Done answer e) = Ends s t r answer e
 -- what is known where thread t stands with record r
 pub record Here (s : Store) (t : ℕ) (r : Thread) : Type 0 where
   pub inv : Inv s
+  pub below : t < mostThreads
   pub is : s .thread t ≡ r
   pub holds : Holds s t r
   pub facts : Facts s r
@@ -87,39 +92,61 @@ from-at P (suc k) l all j low high =
     either-way (eqb l j) (λ e. subst P (eqb-true l j e) (all .0))
     (λ e. let x : l ≡ j → ⊥ = eqb-false l j e in from-at P k (suc l) (all .1) j (omega arith) (omega arith))
 
-pub n-held : {s : Store} {t : ℕ} {r : Thread} → Here s t r → holdsN r ≡ true → heldBy t (s .locks (r .n)) ≡ true
-n-held {r} H x = H .holds .locks (r .n) ∙ rw (x, same (r .n))
+pub n-held : {s : Store} {t : ℕ} {r : Thread} → Here s t r → holdsN r ≡ true → held (kind r) t (s .locks (r .n)) ≡ true
+n-held {r} H x = H .holds .locks (kind r) (r .n) ∙ n-locked r x
 
-pub p-held : {s : Store} {t : ℕ} {r : Thread} → Here s t r → ownsP r ≡ true → heldBy t (s .own (r .p)) ≡ true
-p-held {r} H x = H .holds .own (r .p) ∙ p-owned r x
+pub p-held : {s : Store} {t : ℕ} {r : Thread} → Here s t r → ownsP r ≡ true → held (kind r) t (s .own (r .p)) ≡ true
+p-held {r} H x = H .holds .own (kind r) (r .p) ∙ p-owned r x
 
-pub q-held : {s : Store} {t : ℕ} {r : Thread} → Here s t r → ownsQ r ≡ true → heldBy t (s .own (r .q)) ≡ true
-q-held {r} H x = H .holds .own (r .q) ∙ q-owned r x
+pub q-held : {s : Store} {t : ℕ} {r : Thread} → Here s t r → ownsQ r ≡ true → held (kind r) t (s .own (r .q)) ≡ true
+q-held {r} H x = H .holds .own (kind r) (r .q) ∙ q-owned r x
 
 -- ---- what a line changes and holds next
 
+-- t comes to an entry as κ, or goes from it
+pub comes : (κ : Kind) (about : Kind → ℕ → Type 0) (t : ℕ) (f : ℕ → ℕ) (i : ℕ) → t < mostThreads → admits κ t (f i) ≡ true → about κ i →
+    Joins about t f (Plus i (mark κ t))
+comes κ about t f i b a x = joins κ i b a x
+
+pub parts : (κ : Kind) (about : Kind → ℕ → Type 0) (t : ℕ) (f : ℕ → ℕ) (i : ℕ) → held κ t (f i) ≡ true → Joins about t f (Minus i (mark κ t))
+parts κ about t f i h = quits κ i h
+
 -- what t has of an entry after it took or owned, released or let go entry i; of two blocks where it has another
-pub entry-taken : (t : ℕ) (f : ℕ → ℕ) (i k : ℕ) → heldBy t (f k) ≡ false → heldBy t (upd f i (by t) k) ≡ eqb i k
-entry-taken t f i k =
-    upd-each (λ k w. heldBy t (f k) ≡ false → heldBy t w ≡ eqb i k) f i (by t) (λ _. by-held t ∙ sym (same i))
-    (λ k apart x. x ∙ sym (ne-eqb i k apart)) k
+pub entry-taken : (κ : Kind) (t : ℕ) (f : ℕ → ℕ) (i : ℕ) → t < mostThreads → admits κ t (f i) ≡ true → (κ′ : Kind) (k : ℕ) →
+    held κ′ t (f k) ≡ false → held κ′ t (upd f i (f i + mark κ t) k) ≡ (sameKind κ′ κ && eqb i k)
+entry-taken κ t f i b a κ′ k =
+    upd-each (λ k w. held κ′ t (f k) ≡ false → held κ′ t w ≡ (sameKind κ′ κ && eqb i k)) f i (f i + mark κ t)
+    (λ _. joins-self κ κ′ t (f i) b a ∙ rw (same i) (sym (and-true (sameKind κ′ κ))))
+    (λ k apart x. x ∙ rw (ne-eqb i k apart) (sym (and-false (sameKind κ′ κ)))) k
 
-pub entry-given : (t : ℕ) (f : ℕ → ℕ) (i k : ℕ) → heldBy t (f k) ≡ eqb i k → heldBy t (upd f i none k) ≡ false
-entry-given t f i k =
-    upd-each (λ k w. heldBy t (f k) ≡ eqb i k → heldBy t w ≡ false) f i none (λ _. none-held t)
-    (λ k apart x. x ∙ ne-eqb i k apart) k
+pub entry-given : (κ : Kind) (t : ℕ) (f : ℕ → ℕ) (i : ℕ) → held κ t (f i) ≡ true → (κ′ : Kind) (k : ℕ) →
+    held κ′ t (f k) ≡ (sameKind κ′ κ && eqb i k) → held κ′ t (upd f i (f i - mark κ t) k) ≡ false
+entry-given κ t f i h κ′ k =
+    upd-each (λ k w. held κ′ t (f k) ≡ (sameKind κ′ κ && eqb i k) → held κ′ t w ≡ false) f i (f i - mark κ t)
+    (λ _. quits-self κ κ′ t (f i) h)
+    (λ k apart x. x ∙ rw (ne-eqb i k apart) (and-false (sameKind κ′ κ))) k
 
-pub second-taken : (t : ℕ) (f : ℕ → ℕ) (i j k : ℕ) → heldBy t (f k) ≡ eqb j k →
-    heldBy t (upd f i (by t) k) ≡ (eqb i k || eqb j k)
-second-taken t f i j k =
-    upd-each (λ k w. heldBy t (f k) ≡ eqb j k → heldBy t w ≡ (eqb i k || eqb j k)) f i (by t) (λ _. rw (by-held t, same i))
-    (λ k apart x. rw (ne-eqb i k apart) x) k
+or-absorb : (a b : Bool) → (a || a && b) ≡ a
+or-absorb true b = refl
+or-absorb false b = refl
 
-pub second-given : (t : ℕ) (f : ℕ → ℕ) (i j : ℕ) → (j ≡ i → ⊥) → (k : ℕ) →
-    heldBy t (f k) ≡ (eqb i k || eqb j k) → heldBy t (upd f i none k) ≡ eqb j k
-second-given t f i j others k =
-    upd-each (λ k w. heldBy t (f k) ≡ (eqb i k || eqb j k) → heldBy t w ≡ eqb j k) f i none
-    (λ _. none-held t ∙ sym (ne-eqb j i others)) (λ k apart x. rw (ne-eqb i k apart) at x) k
+pub second-taken : (κ : Kind) (t : ℕ) (f : ℕ → ℕ) (i j : ℕ) → t < mostThreads → admits κ t (f i) ≡ true → (κ′ : Kind) (k : ℕ) →
+    held κ′ t (f k) ≡ (sameKind κ′ κ && eqb j k) →
+    held κ′ t (upd f i (f i + mark κ t) k) ≡ (sameKind κ′ κ && eqb i k || sameKind κ′ κ && eqb j k)
+second-taken κ t f i j b a κ′ k =
+    upd-each (λ k w. held κ′ t (f k) ≡ (sameKind κ′ κ && eqb j k) → held κ′ t w ≡ (sameKind κ′ κ && eqb i k || sameKind κ′ κ && eqb j k)) f i
+    (f i + mark κ t)
+    (λ _. joins-self κ κ′ t (f i) b a ∙ rw (same i, and-true (sameKind κ′ κ)) (sym (or-absorb (sameKind κ′ κ) (eqb j i))))
+    (λ k apart x. x ∙ rw (ne-eqb i k apart, and-false (sameKind κ′ κ))) k
+
+pub second-given : (κ : Kind) (t : ℕ) (f : ℕ → ℕ) (i j : ℕ) → held κ t (f i) ≡ true → (j ≡ i → ⊥) → (κ′ : Kind) (k : ℕ) →
+    held κ′ t (f k) ≡ (sameKind κ′ κ && eqb i k || sameKind κ′ κ && eqb j k) →
+    held κ′ t (upd f i (f i - mark κ t) k) ≡ (sameKind κ′ κ && eqb j k)
+second-given κ t f i j h others κ′ k =
+    upd-each (λ k w. held κ′ t (f k) ≡ (sameKind κ′ κ && eqb i k || sameKind κ′ κ && eqb j k) → held κ′ t w ≡ (sameKind κ′ κ && eqb j k)) f i
+    (f i - mark κ t)
+    (λ _. quits-self κ κ′ t (f i) h ∙ rw (ne-eqb j i others, and-false (sameKind κ′ κ)))
+    (λ k apart x. x ∙ rw (ne-eqb i k apart, and-false (sameKind κ′ κ))) k
 
 -- ---- what a line does to the map and the headers
 
@@ -259,4 +286,4 @@ pub facts-idle : (s : Store) → 0 < s .numbers → s .numbers < s .blocks → F
 facts-idle s some more = search arith
 
 -- what proves nearly every line's part: what it takes and gives, and what it has of it next
-pub ruleset keeping = (takes, gives-up, same, by-held, none-held, entry-taken, entry-given, inl, inr)
+pub ruleset keeping = (takes, gives-up, leaves-all, same, by-held, none-held, inl, inr)

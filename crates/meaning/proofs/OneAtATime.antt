@@ -28,17 +28,20 @@ use native.Mathlib.Omega.{arith}
 use lib.ListN.{length}
 use lib.Dec.{eqb, leb}
 use borrow.Author.Tests.{eqb-true, eqb-false, ne-eqb}
+use Rattle.meaning.specs.declared.Kind.{Kind}
 use Rattle.meaning.specs.declared.Thread.{Thread}
 use Rattle.meaning.specs.Numbers.{WENT, FINISHED}
 use Rattle.meaning.specs.Limits.{inLimits}
 use Rattle.meaning.specs.Store.{Store, idle, fresh}
-use Rattle.meaning.specs.Holding.{none, heldBy}
+use Rattle.meaning.specs.Holding.{none, heldBy, held, proper}
 use Rattle.meaning.specs.Step.{nothing, apply}
 use Rattle.meaning.specs.Call.{Reply, Entry, begin, step, callStore, told, isIdle, begun, reply}
 use Rattle.meaning.specs.Schedule.{Operation, Answered, emit, takesLast, placed, run, placing, finishing, order, serial}
 use Rattle.meaning.specs.Demands.{Owed, none-owed, one-owed, OneAtATime, AnswersSoFar}
 use Rattle.meaning.proofs.Base.Words.{same, either-way, clash, nobody-free, free-none, upd-same, upd-other}
+use Rattle.meaning.proofs.Base.Sets.{nobody-in}
 use Rattle.meaning.proofs.Invariant.{holdsH, ownsHeaders, holdsLock, ownsBlock, Inv}
+use Rattle.meaning.proofs.Invariant.Sharing.{few}
 use Rattle.meaning.proofs.Lines.EveryLine.{idle-is}
 use Rattle.meaning.proofs.Progress.{inv-fresh, inv-call, inv-run}
 use Rattle.meaning.proofs.EitherOrder.{Going, left-by, can-going, going-reply, going-moves}
@@ -261,6 +264,12 @@ module _ (s : Store) (I : Inv s) (rests : (u : ℕ) → isIdle (s .thread u) ≡
   nobody-has : (w : ℕ) (flag : Thread → Bool) → flag idle ≡ false → ((v : ℕ) → heldBy v w ≡ flag (s .thread v)) → none ≡ w
   nobody-has w flag down is = sym (free-none w (nobody-free w (λ v. is v ∙ ap flag (is-idle v) ∙ down)))
 
+  -- and one that they read or write
+  nobody-shares : (w : ℕ) (flag : Kind → Thread → Bool) → ((κ : Kind) → flag κ idle ≡ false) →
+      ((κ : Kind) (v : ℕ) → held κ v w ≡ flag κ (s .thread v)) → proper (s .threads) w ≡ true → none ≡ w
+  nobody-shares w flag down is fits =
+      sym (nobody-in (s .threads) (few s I) w fits (λ κ v. is κ v ∙ ap (flag κ) (is-idle v) ∙ down κ))
+
   cleared-idle : cleared s ≡ s
   cleared-idle =
       λ i. record {
@@ -272,11 +281,11 @@ module _ (s : Store) (I : Inv s) (rests : (u : ℕ) → isIdle (s .thread u) ≡
         owner = nobody-has (s .owner) ownsHeaders refl (λ v. I .holds v .owner) i;
         thread = λ u. sym (is-idle u) i;
         map = s .map;
-        locks = λ k. nobody-has (s .locks k) (λ r. holdsLock r k) refl (λ v. I .holds v .locks k) i;
+        locks = λ k. nobody-shares (s .locks k) (λ κ r. holdsLock κ r k) (λ κ. refl) (λ κ v. I .holds v .locks κ k) (I .locks k) i;
         header = s .header;
         content = s .content;
         wear = s .wear;
-        own = λ m. nobody-has (s .own m) (λ r. ownsBlock r m) refl (λ v. I .holds v .own m) i;
+        own = λ m. nobody-shares (s .own m) (λ κ r. ownsBlock κ r m) (λ κ. refl) (λ κ v. I .holds v .own κ m) (I .own m) i;
       }
 
   idle-settles : {d : Store} {a : ℕ → List Answered} → SettlesTo s d a → (s ≡ d) × ((u : ℕ) → a u ≡ [])

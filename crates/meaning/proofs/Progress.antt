@@ -8,7 +8,7 @@ pub mod Called
 pub mod Guarded
 pub mod FirstWrite
 use mathlib.Core.Path.{_≡_, refl, sym, _∙_, subst}
-use mathlib.Core.Bool.{Bool, true, false}
+use mathlib.Core.Bool.{Bool, true, false, _&&_}
 use mathlib.Core.List.{List, [], _∷_}
 use mathlib.Core.Logic.{_⊎_, inl, inr}
 use Prim.Native.Nat.{ℕ, _<_, _≤_}
@@ -26,9 +26,10 @@ use Rattle.meaning.specs.Step.{nothing, verdict}
 use Rattle.meaning.specs.Call.{Entry, step, callStore, reply, told, isIdle, begun}
 use Rattle.meaning.specs.Schedule.{run, Grown, formatted, called}
 use Rattle.meaning.proofs.Base.Words.{either-way, clash, and-left, none-held, held-by, held-below, naming-not-none}
-use Rattle.meaning.proofs.Invariant.{holdsH, holdsN, ownsHeaders, holdsLock, ownsBlock, Inv}
+use Rattle.meaning.proofs.Base.Sets.{sameKind, nobody-held, none-proper, unlet-not-free, holder-found}
+use Rattle.meaning.proofs.Invariant.{kind, holdsH, holdsN, ownsHeaders, Inv}
 use Rattle.meaning.proofs.Invariant.Keeping.{moves-inv}
-use Rattle.meaning.proofs.Invariant.Sharing.{limits-numbers-blocks}
+use Rattle.meaning.proofs.Invariant.Sharing.{limits-numbers-blocks, few}
 use Rattle.meaning.proofs.Lines.{Waits, for-H, for-N, Fine, facts-idle}
 use Rattle.meaning.proofs.Lines.EveryLine.{idle-is, fine}
 use Rattle.meaning.proofs.Progress.Called.{CallCases, stays, opens, goes, ends, call-cases}
@@ -42,7 +43,9 @@ inv-fresh t n p d l =
       limits = l;
       stands = λ v. inl refl;
       past = λ v _. refl;
-      holds = λ v. search none-held;
+      holds = λ v. search (none-held, nobody-held);
+      locks = λ k. none-proper t;
+      own = λ m. none-proper t;
       facts = λ v. facts-idle (fresh t n p d) (sizes .1) (sizes .0);
       agrees =
           record {
@@ -87,22 +90,22 @@ SomeSteps s = (u : ℕ) × (u < s .threads) × (isIdle (s .thread u) ≡ false) 
 
 module _ (s : Store) (I : Inv s) where
   told-steps : (t : ℕ) (v : Verdict) → Fine s t (s .thread t) v →
-      (leb (reply (λ s′. s′) s (told s t v) .number) FINISHED ≡ true) ⊎ Waits s (s .thread t)
+      (leb (reply (λ s′. s′) s (told s t v) .number) FINISHED ≡ true) ⊎ Waits s t (s .thread t)
   told-steps t Blocked f = inr f
   told-steps t Fault f = absurd f
   told-steps t (Go r′ e) f = inl refl
   told-steps t (Done answer e) f = inl refl
 
   -- an open thread can step, or it waits
-  steps-or-waits : (t : ℕ) → t < s .threads → isIdle (s .thread t) ≡ false → CanStep s t ⊎ Waits s (s .thread t)
+  steps-or-waits : (t : ℕ) → t < s .threads → isIdle (s .thread t) ≡ false → CanStep s t ⊎ Waits s t (s .thread t)
   steps-or-waits t below busy = rw (lt-ltb t (s .threads) below, busy) (told-steps t (verdict s t) (fine s I t busy))
 
   -- so somebody can step, if that is so where it waits
-  unless-waits : (t : ℕ) → (t < s .threads) × (isIdle (s .thread t) ≡ false) → (Waits s (s .thread t) → SomeSteps s) →
+  unless-waits : (t : ℕ) → (t < s .threads) × (isIdle (s .thread t) ≡ false) → (Waits s t (s .thread t) → SomeSteps s) →
       SomeSteps s
   unless-waits t busy waits = go (steps-or-waits t (busy .0) (busy .1))
     where
-      go : CanStep s t ⊎ Waits s (s .thread t) → SomeSteps s
+      go : CanStep s t ⊎ Waits s t (s .thread t) → SomeSteps s
       go (inl c) = (t, busy .0, busy .1, c)
       go (inr w) = waits w
 
@@ -120,10 +123,13 @@ module _ (s : Store) (I : Inv s) where
   -- who holds a number's lock waits for nothing
   n-holder-steps : (k : ℕ) → free (s .locks k) ≡ false → SomeSteps s
   n-holder-steps k f =
-      let holder = held-by (s .locks k) f in
-      go (holder .0) (and-left (holdsN (s .thread (holder .0))) _ (sym (I .holds (holder .0) .locks k) ∙ holder .1))
+      let holder = holder-found (s .threads) (few s I) (s .locks k) (I .locks k) f in
+      let κ = holder .0 in
+      let r = s .thread (holder .1) in
+      go (holder .1)
+      (and-left (holdsN r) _ (and-left (holdsN r && sameKind κ (kind r)) _ (sym (I .holds (holder .1) .locks κ k) ∙ holder .2)))
     where
-      waits : (v : ℕ) → holdsN (s .thread v) ≡ true → Waits s (s .thread v) → SomeSteps s
+      waits : (v : ℕ) → holdsN (s .thread v) ≡ true → Waits s v (s .thread v) → SomeSteps s
       waits v x (for-H _ y _) = clash x y
       waits v x (for-N y _) = clash x y
 
@@ -134,9 +140,9 @@ module _ (s : Store) (I : Inv s) where
   H-holder-steps : free (s .lock) ≡ false → SomeSteps s
   H-holder-steps f = let holder = held-by (s .lock) f in go (holder .0) (sym (I .holds (holder .0) .lock) ∙ holder .1)
     where
-      waits : (v : ℕ) → holdsH (s .thread v) ≡ true → Waits s (s .thread v) → SomeSteps s
+      waits : (v : ℕ) → holdsH (s .thread v) ≡ true → Waits s v (s .thread v) → SomeSteps s
       waits v x (for-H y _ _) = clash x y
-      waits v x (for-N _ y) = n-holder-steps (s .thread v .n) y
+      waits v x (for-N _ y) = n-holder-steps (s .thread v .n) (unlet-not-free (kind (s .thread v)) v (s .locks (s .thread v .n)) y)
 
       go : (v : ℕ) → holdsH (s .thread v) ≡ true → SomeSteps s
       go v x = unless-waits v (up-busy holdsH refl v x) (waits v x)
@@ -145,11 +151,11 @@ module _ (s : Store) (I : Inv s) where
       (u : ℕ) × (u < s .threads) × (isIdle (s .thread u) ≡ false) × CanStep s u
   progress t below busy = unless-waits t (below, busy) waits
     where
-      waits : Waits s (s .thread t) → SomeSteps s
+      waits : Waits s t (s .thread t) → SomeSteps s
       waits (for-H _ _ f) = H-holder-steps f
-      waits (for-N _ f) = n-holder-steps (s .thread t .n) f
+      waits (for-N _ f) = n-holder-steps (s .thread t .n) (unlet-not-free (kind (s .thread t)) t (s .locks (s .thread t .n)) f)
 
-  -- ---- lock and owner words are in range: only threads below T hold and own
+  -- ---- H and the headers' owner are in range: only threads below T hold and own
 
   flag-below : (w : ℕ) (flag : Thread → Bool) → flag idle ≡ false → ((v : ℕ) → heldBy v w ≡ flag (s .thread v)) → w ≤ s .threads
   flag-below w flag down is = held-below w (s .threads) (λ v x. up-busy flag down v (sym (is v) ∙ x) .0)
@@ -159,9 +165,3 @@ module _ (s : Store) (I : Inv s) where
 
   pub owner-below : s .owner ≤ s .threads
   owner-below = flag-below (s .owner) ownsHeaders refl (λ v. I .holds v .owner)
-
-  pub locks-below : (k : ℕ) → s .locks k ≤ s .threads
-  locks-below k = flag-below (s .locks k) (λ r. holdsLock r k) refl (λ v. I .holds v .locks k)
-
-  pub own-below : (m : ℕ) → s .own m ≤ s .threads
-  own-below m = flag-below (s .own m) (λ r. ownsBlock r m) refl (λ v. I .holds v .own m)

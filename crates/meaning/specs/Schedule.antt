@@ -6,6 +6,7 @@ use mathlib.Core.List.{List, [], _∷_}
 use mathlib.Core.Logic.{_⊎_}
 use Prim.Native.Nat.{ℕ, zero, suc, _≤_}
 use lib.Dec.{eqb, ltb}
+use Rattle.meaning.specs.declared.Kind.{Kind}
 use Rattle.meaning.specs.declared.Act.{Act}
 use Rattle.meaning.specs.declared.Act.the-variants.{TakeH, TakeN}
 use Rattle.meaning.specs.declared.Thread.{Thread}
@@ -50,7 +51,7 @@ nextAct r = actAt (r .op) (r .line)
 
 -- a thread with this record is about to take a lock: H, at W1, U1 and L1, or a number's, at W2, R1, U2 and L6
 abbrev pub AtTake : Thread → Type 0
-AtTake r = (nextAct r ≡ TakeH) ⊎ (nextAct r ≡ TakeN)
+AtTake r = (nextAct r ≡ TakeH) ⊎ ((κ : Kind) × (nextAct r ≡ TakeN κ))
 
 -- t's next step, if it goes, takes its last lock: it is at W2, R1, U2 or L6, or at L1 and would move nothing
 abbrev pub takesLast : Store → Thread → Bool

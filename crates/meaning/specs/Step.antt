@@ -1,8 +1,9 @@
--- What a line does. 01, "The lines", "A line's needs" and "Choosing": a line is an act of Programs; `perform` says what it would do, and
--- `apply` does it. So a step that is refused or blocked does nothing.
-use mathlib.Core.Bool.{Bool, not, cond, _&&_}
-use Prim.Native.Nat.{ℕ, _+_}
+-- What a line does. 01, "The lines", "A line's needs" and "Choosing", with readers and a writer as 02, §3, has them: a line is an act of
+-- Programs; `perform` says what it would do, and `apply` does it. So a step that is refused or blocked does nothing.
+use mathlib.Core.Bool.{Bool, not, cond, _&&_, _||_}
+use Prim.Native.Nat.{ℕ, _+_, _-_}
 use lib.Dec.{ltb}
+use Rattle.meaning.specs.declared.Kind.the-variants.{Reader, Writer}
 use Rattle.meaning.specs.declared.Reg.{Reg}
 use Rattle.meaning.specs.declared.Reg.the-variants.{P, Q}
 use Rattle.meaning.specs.declared.Answer.{Answer}
@@ -14,6 +15,8 @@ use Rattle.meaning.specs.declared.Word.{Word}
 use Rattle.meaning.specs.declared.Word.the-variants.{Stay, Become}
 use Rattle.meaning.specs.declared.Update.{Update}
 use Rattle.meaning.specs.declared.Update.the-variants.{Keep, Put}
+use Rattle.meaning.specs.declared.Pass.{Pass}
+use Rattle.meaning.specs.declared.Pass.the-variants.{Leave, Plus, Minus}
 use Rattle.meaning.specs.declared.Effect.{Effect}
 use Rattle.meaning.specs.declared.Verdict.{Verdict}
 use Rattle.meaning.specs.declared.Verdict.the-variants.{Blocked, Fault, Go, Done}
@@ -22,7 +25,7 @@ use Rattle.meaning.specs.declared.Found.the-variants.{Nobody, At}
 use Rattle.meaning.specs.Table.{upd}
 use Rattle.meaning.specs.Limits.{mostWord}
 use Rattle.meaning.specs.Store.{Store}
-use Rattle.meaning.specs.Holding.{none, free, by, heldBy, naming, named}
+use Rattle.meaning.specs.Holding.{none, free, by, heldBy, mark, held, admits, naming, named}
 use Rattle.meaning.specs.Programs.{actAt}
 use Rattle.meaning.specs.Choosing.{lowestFree, toBlock, leastWorn, fromBlock}
 
@@ -57,40 +60,40 @@ block Q r = r .q
 -- ---- the effects that there are
 
 -- what becomes of each word and table, in the area's order
-abbrev pub effect : Word → Word → Update → Update → Update → Update → Update → Update → Effect
+abbrev pub effect : Word → Word → Update → Pass → Update → Update → Update → Pass → Effect
 effect lock owner map locks header content wear own =
     record { lock = lock; owner = owner; map = map; locks = locks; header = header; content = content; wear = wear; own = own }
 
 abbrev pub nothing : Effect
-nothing = effect Stay Stay Keep Keep Keep Keep Keep Keep
+nothing = effect Stay Stay Keep Leave Keep Keep Keep Leave
 
 abbrev pub onLock : ℕ → Effect
-onLock w = effect (Become w) Stay Keep Keep Keep Keep Keep Keep
+onLock w = effect (Become w) Stay Keep Leave Keep Keep Keep Leave
 
 abbrev pub onOwner : ℕ → Effect
-onOwner w = effect Stay (Become w) Keep Keep Keep Keep Keep Keep
+onOwner w = effect Stay (Become w) Keep Leave Keep Keep Keep Leave
 
 abbrev pub onMap : ℕ → ℕ → Effect
-onMap n w = effect Stay Stay (Put n w) Keep Keep Keep Keep Keep
+onMap n w = effect Stay Stay (Put n w) Leave Keep Keep Keep Leave
 
-abbrev pub onLocks : ℕ → ℕ → Effect
-onLocks n w = effect Stay Stay Keep (Put n w) Keep Keep Keep Keep
+abbrev pub onLocks : Pass → Effect
+onLocks c = effect Stay Stay Keep c Keep Keep Keep Leave
 
 abbrev pub onHeader : ℕ → ℕ → Effect
-onHeader m w = effect Stay Stay Keep Keep (Put m w) Keep Keep Keep
+onHeader m w = effect Stay Stay Keep Leave (Put m w) Keep Keep Leave
 
 abbrev pub onContent : ℕ → ℕ → Effect
-onContent m w = effect Stay Stay Keep Keep Keep (Put m w) Keep Keep
+onContent m w = effect Stay Stay Keep Leave Keep (Put m w) Keep Leave
 
 abbrev pub onWear : ℕ → ℕ → Effect
-onWear m w = effect Stay Stay Keep Keep Keep Keep (Put m w) Keep
+onWear m w = effect Stay Stay Keep Leave Keep Keep (Put m w) Leave
 
 -- a block freed, with its wear
 abbrev pub onFreed : ℕ → ℕ → Effect
-onFreed m w = effect Stay Stay Keep Keep (Put m none) Keep (Put m w) Keep
+onFreed m w = effect Stay Stay Keep Leave (Put m none) Keep (Put m w) Leave
 
-abbrev pub onOwn : ℕ → ℕ → Effect
-onOwn m w = effect Stay Stay Keep Keep Keep Keep Keep (Put m w)
+abbrev pub onOwn : Pass → Effect
+onOwn c = effect Stay Stay Keep Leave Keep Keep Keep c
 
 -- ---- verdicts
 
@@ -98,9 +101,9 @@ onOwn m w = effect Stay Stay Keep Keep Keep Keep Keep (Put m w)
 abbrev pub need : Bool → Verdict → Verdict
 need met v = cond met v Fault
 
--- a take: BLOCKED where its lock isn't free, whoever holds it
-abbrev pub take : ℕ → Verdict → Verdict
-take w v = cond (free w) v Blocked
+-- a take: BLOCKED where its lock doesn't let it in
+abbrev pub take : Bool → Verdict → Verdict
+take lets v = cond lets v Blocked
 
 -- on to the next line with a record and an effect
 abbrev pub next : Thread → Effect → Verdict
@@ -123,13 +126,17 @@ answer Zero r = 0
 answer C r = r .c
 answer Moved r = moved (r .h)
 
--- the block is owned by t and its header isn't free: what a content line needs
-abbrev pub touches : Store → ℕ → ℕ → Bool
-touches s t m = heldBy t (s .own m) && not (free (s .header m))
+-- t has a place in the block's set or writes it, and its header isn't free: what reading a content needs
+abbrev pub sees : Store → ℕ → ℕ → Bool
+sees s t m = (held Reader t (s .own m) || held Writer t (s .own m)) && not (free (s .header m))
 
--- headers and the block are owned by t: what writing a header needs
+-- t writes the block, and its header isn't free: what writing a content needs
+abbrev pub touches : Store → ℕ → ℕ → Bool
+touches s t m = held Writer t (s .own m) && not (free (s .header m))
+
+-- t owns the headers and writes the block: what writing a header needs
 abbrev pub heads : Store → ℕ → ℕ → Bool
-heads s t m = heldBy t (s .owner) && heldBy t (s .own m)
+heads s t m = heldBy t (s .owner) && held Writer t (s .own m)
 
 -- W3, where w is n's word of the map and x the wear of the block that it names: on where n is unmapped, else p becomes that block and its wear
 -- is up by one (document 02, §1: the chip can't overwrite, so that a rewrite is an erase)
@@ -144,16 +151,16 @@ choosing wear distance r (At to) from = next (setQ to (setP (fromBlock wear dist
 -- what the act would do: of store s, for thread t with record r
 abbrev pub perform : Act → Store → ℕ → Thread → Verdict
 perform Nothing s t r = Fault
-perform TakeH s t r = take (s .lock) (next r (onLock (by t)))
+perform TakeH s t r = take (free (s .lock)) (next r (onLock (by t)))
 perform ReleaseH s t r = need (heldBy t (s .lock)) (next r (onLock none))
 perform (FinishH a) s t r = need (heldBy t (s .lock)) (Done (answer a r) (onLock none))
-perform TakeN s t r = take (s .locks (r .n)) (next r (onLocks (r .n) (by t)))
-perform ReleaseN s t r = need (heldBy t (s .locks (r .n))) (next r (onLocks (r .n) none))
-perform (FinishN a) s t r = need (heldBy t (s .locks (r .n))) (Done (answer a r) (onLocks (r .n) none))
+perform (TakeN κ) s t r = take (admits κ t (s .locks (r .n))) (next r (onLocks (Plus (r .n) (mark κ t))))
+perform ReleaseN s t r = need (held Writer t (s .locks (r .n))) (next r (onLocks (Minus (r .n) (mark Writer t))))
+perform (FinishN κ a) s t r = need (held κ t (s .locks (r .n))) (Done (answer a r) (onLocks (Minus (r .n) (mark κ t))))
 perform OwnHeaders s t r = need (free (s .owner)) (next r (onOwner (by t)))
 perform LetGoHeaders s t r = need (heldBy t (s .owner)) (next r (onOwner none))
-perform (Own b) s t r = need (free (s .own (block b r))) (next r (onOwn (block b r) (by t)))
-perform (LetGo b) s t r = need (heldBy t (s .own (block b r))) (next r (onOwn (block b r) none))
+perform (Own κ b) s t r = need (admits κ t (s .own (block b r))) (next r (onOwn (Plus (block b r) (mark κ t))))
+perform (LetGo κ b) s t r = need (held κ t (s .own (block b r))) (next r (onOwn (Minus (block b r) (mark κ t))))
 perform (GoIfMapped l) s t r = toRewrite l (s .map (r .n)) (s .wear (named (s .map (r .n)))) r
 perform (GoIfUnmapped l) s t r = branch (s .map (r .n)) (goto l r) (setP (named (s .map (r .n))) (onward r))
 perform (EmptyIfUnmapped l) s t r = branch (s .map (r .n)) (setC 0 (goto l r)) (setP (named (s .map (r .n))) (onward r))
@@ -169,7 +176,7 @@ perform WriteHeaderN s t r = need (heads s t (r .p)) (next r (onHeader (r .p) (n
 perform WriteHeaderH s t r = need (heads s t (r .q)) (next r (onHeader (r .q) (r .h)))
 perform FreeHeader s t r = need (heads s t (r .p)) (next r (onFreed (r .p) (worn (s .wear (r .p)))))
 perform EmptyContent s t r = need (touches s t (r .p)) (next r (onContent (r .p) 0))
-perform ReadContent s t r = need (touches s t (r .p)) (next (setC (s .content (r .p)) r) nothing)
+perform ReadContent s t r = need (sees s t (r .p)) (next (setC (s .content (r .p)) r) nothing)
 perform (WriteContent b) s t r = need (touches s t (block b r)) (next r (onContent (block b r) (r .c)))
 perform (MapTo b) s t r = next r (onMap (r .n) (naming (block b r)))
 perform Unmap s t r = next r (onMap (r .n) none)
@@ -188,6 +195,12 @@ abbrev pub put : Update → (ℕ → ℕ) → ℕ → ℕ
 put Keep f = f
 put (Put i w) f = upd f i w
 
+-- what a change of locks or owners f comes to: the word that it puts
+abbrev pub came : (ℕ → ℕ) → Pass → Update
+came f Leave = Keep
+came f (Plus i m) = Put i (f i + m)
+came f (Minus i m) = Put i (f i - m)
+
 -- the store with these records of its threads, and an effect
 abbrev pub changed : Store → (ℕ → Thread) → Effect → Store
 changed s records e =
@@ -200,11 +213,11 @@ changed s records e =
       owner = become (e .owner) (s .owner);
       thread = records;
       map = put (e .map) (s .map);
-      locks = put (e .locks) (s .locks);
+      locks = put (came (s .locks) (e .locks)) (s .locks);
       header = put (e .header) (s .header);
       content = put (e .content) (s .content);
       wear = put (e .wear) (s .wear);
-      own = put (e .own) (s .own);
+      own = put (came (s .own) (e .own)) (s .own);
     }
 
 -- the store with t's record and an effect

@@ -7,6 +7,12 @@ pub enum Reg {
     Q,
 }
 
+// How a thread takes a number's lock or owns a block: as one of the readers, or as the one writer.
+pub enum Kind {
+    Reader,
+    Writer,
+}
+
 // What an operation finishes with: 0; register c; or, by register h, 0 where it is free and else 1.
 pub enum Answer {
     Zero,
@@ -20,13 +26,13 @@ pub enum Act {
     TakeH,
     ReleaseH,
     FinishH(Answer),
-    TakeN,
+    TakeN(Kind),
     ReleaseN,
-    FinishN(Answer),
+    FinishN(Kind, Answer),
     OwnHeaders,
     LetGoHeaders,
-    Own(Reg),
-    LetGo(Reg),
+    Own(Kind, Reg),
+    LetGo(Kind, Reg),
     GoIfMapped(u32),
     GoIfUnmapped(u32),
     EmptyIfUnmapped(u32),
@@ -67,16 +73,23 @@ pub enum Update {
     Put(u32, u32),
 }
 
+// What becomes of the locks or of the owners of blocks: they are left, or an amount is added to the word at an index, or taken off it.
+pub enum Pass {
+    Leave,
+    Plus(u32, u32),
+    Minus(u32, u32),
+}
+
 // What a step does to the store beside its thread's record: in each table one entry at most.
 pub struct Effect {
     pub lock: Word,
     pub owner: Word,
     pub map: Update,
-    pub locks: Update,
+    pub locks: Pass,
     pub header: Update,
     pub content: Update,
     pub wear: Update,
-    pub own: Update,
+    pub own: Pass,
 }
 
 // What a step would do: nothing, since a lock isn't free or a need isn't met; go on; or end its operation.

@@ -23,14 +23,14 @@ pub record Sample : Type 0 where
   pub input : String
   pub prints : String
 
--- the example of 01, "The script program": each line, and beside it what it prints
+-- the example of 01, "The script program": each line, and beside it what it prints; by 02, §3, the second reader isn't blocked
 abbrev example : List Sample
 example =
     (record { input = "f 2 1 2 1\n"; prints = "0 0\n" }) ∷
     (record { input = "b 0 2 0 9\n"; prints = "0 0\n" }) ∷
     (record { input = "b 1 2 0 0\n"; prints = "0 0\n" }) ∷
     (record { input = "s 0\n"; prints = "0 0\n" }) ∷
-    (record { input = "s 1\n"; prints = "2 0\n" }) ∷
+    (record { input = "s 1\n"; prints = "0 0\n" }) ∷
     (record { input = "s 0\n"; prints = "0 0\n" }) ∷
     (record { input = "s 0\n"; prints = "1 0\n" }) ∷
     (record { input = "s 1\n"; prints = "0 0\n" }) ∷

@@ -8,6 +8,7 @@ use lib.Dec.{leb, ltb}
 use borrow.Author.Tests.{lt-ltb, ltb-true, ltb-false}
 use Rattle.meaning.specs.Table.{below, every}
 use Rattle.meaning.specs.Store.{idle}
+use Rattle.meaning.specs.Holding.{proper}
 use Rattle.meaning.proofs.Base.Words.{either-way}
 use Rattle.store.specs.Layout.{lockAt, ownerAt, threadsAt, threadWords, mapAt, locksAt, blocksAt, blockWords}
 use Rattle.store.specs.Area.{word, threadFrom, storeOf, decode, soundThread, inBounds}
@@ -33,9 +34,9 @@ pub inBounds-words :
     && leb (word a ownerAt) t
     && every t (λ k. soundThread n p (threadFrom (word a) (threadsAt + threadWords * k)))
     && every n (λ k. leb (word a (mapAt t + 1 * k)) p)
-    && every n (λ k. leb (word a (locksAt t n + 1 * k)) t)
+    && every n (λ k. proper t (word a (locksAt t n + 1 * k)))
     && every p (λ k. leb (word a (blocksAt t n + blockWords * k)) n)
-    && every p (λ k. leb (word a (blocksAt t n + 3 + blockWords * k)) t)
+    && every p (λ k. proper t (word a (blocksAt t n + 3 + blockWords * k)))
     ≡ inBounds (decode a)
 inBounds-words {a} {t} {n} {p} v =
     (λ i.
@@ -43,7 +44,7 @@ inBounds-words {a} {t} {n} {p} v =
     && leb (word a ownerAt) t
     && every-below idle t (λ k. threadFrom (word a) (threadsAt + threadWords * k)) (soundThread n p) i
     && every-below 0 n (λ k. word a (mapAt t + 1 * k)) (λ w. leb w p) i
-    && every-below 0 n (λ k. word a (locksAt t n + 1 * k)) (λ w. leb w t) i
+    && every-below 0 n (λ k. word a (locksAt t n + 1 * k)) (proper t) i
     && every-below 0 p (λ k. word a (blocksAt t n + blockWords * k)) (λ w. leb w n) i
-    && every-below 0 p (λ k. word a (blocksAt t n + 3 + blockWords * k)) (λ w. leb w t) i)
+    && every-below 0 p (λ k. word a (blocksAt t n + 3 + blockWords * k)) (proper t) i)
     ∙ sym (ap inBounds (decode-live v))

@@ -4,17 +4,20 @@ use mathlib.Core.Path.{_≡_, refl, sym, _∙_, ap, subst}
 use mathlib.Core.Bool.{true}
 use mathlib.Core.List.{List, [], _∷_, _++_}
 use mathlib.Core.Logic.{inl, inr}
-use Prim.Native.Nat.{ℕ, zero, suc, _+_, _*_, _<_, _≤_}
+use Prim.Native.Nat.{ℕ, zero, suc, _+_, _*_, _%_, _^_, _/_, _<_, _≤_}
 use native.Mathlib.Omega.{arith}
 use lib.Dec.{eqb, ltb}
 use lib.ListN.{length}
-use borrow.Author.Tests.{ltb-true, ltb-false, lt-ltb, le-ltb}
+use lib.Pow.{pow-mono}
+use borrow.Author.Tests.{eqb-true, ltb-true, ltb-false, lt-ltb, le-ltb, leb-true}
 use Rattle.meaning.specs.declared.Thread.{Thread}
 use Rattle.meaning.specs.Numbers.{WENT}
-use Rattle.meaning.specs.Limits.{mostWord, inLimits}
+use Rattle.meaning.specs.Limits.{mostThreads, mostWord, inLimits}
 use Rattle.meaning.specs.Store.{Store, idle, fresh}
+use Rattle.meaning.specs.Holding.{sets, proper}
 use Rattle.meaning.specs.Step.{worn}
-use Rattle.meaning.proofs.Base.Words.{either-way}
+use Rattle.meaning.proofs.Base.Words.{either-way, and-left, and-right, or-way}
+use Rattle.meaning.proofs.Base.Sets.{none-proper}
 use Rattle.meaning.proofs.Acts.{NearWords}
 use Rattle.store.specs.Layout.{tAt, size}
 use Rattle.store.specs.Area.{Bytes, word, rows, threadRow, blockRow, words, encode, column, decode, wellFormed}
@@ -26,9 +29,16 @@ use Rattle.store.proofs.Codec.{InRange, encode-decode, decode-encode, l
 
 -- ---- a store in range
 
--- entry k of a table of so many: at most the bound, and 0 past the size
-pub record Cell (size bound k w : ℕ) : Type 0 where
-  pub low : k < size → w ≤ bound
+-- the bounds that there are: at most so much; a set or a writer, of so many threads
+abbrev pub AtMost : ℕ → ℕ → Type 0
+AtMost bound w = w ≤ bound
+
+abbrev pub Proper : ℕ → ℕ → Type 0
+Proper threads w = proper threads w ≡ true
+
+-- entry k of a table of so many: in its bounds, and 0 past the size
+pub record Cell (size : ℕ) (In : ℕ → Type 0) (k w : ℕ) : Type 0 where
+  pub low : k < size → In w
   pub past : size ≤ k → 0 ≡ w
 
 -- thread t's record of so many threads
@@ -42,12 +52,21 @@ pub record Ranged (s : Store) : Type 0 where
   pub lock : s .lock ≤ s .threads
   pub owner : s .owner ≤ s .threads
   pub thread : (t : ℕ) → Seat (s .threads) (s .numbers) (s .blocks) t (s .thread t)
-  pub map : (k : ℕ) → Cell (s .numbers) (s .blocks) k (s .map k)
-  pub locks : (k : ℕ) → Cell (s .numbers) (s .threads) k (s .locks k)
-  pub header : (m : ℕ) → Cell (s .blocks) (s .numbers) m (s .header m)
-  pub content : (m : ℕ) → Cell (s .blocks) mostWord m (s .content m)
-  pub wear : (m : ℕ) → Cell (s .blocks) mostWord m (s .wear m)
-  pub own : (m : ℕ) → Cell (s .blocks) (s .threads) m (s .own m)
+  pub map : (k : ℕ) → Cell (s .numbers) (AtMost (s .blocks)) k (s .map k)
+  pub locks : (k : ℕ) → Cell (s .numbers) (Proper (s .threads)) k (s .locks k)
+  pub header : (m : ℕ) → Cell (s .blocks) (AtMost (s .numbers)) m (s .header m)
+  pub content : (m : ℕ) → Cell (s .blocks) (AtMost mostWord) m (s .content m)
+  pub wear : (m : ℕ) → Cell (s .blocks) (AtMost mostWord) m (s .wear m)
+  pub own : (m : ℕ) → Cell (s .blocks) (Proper (s .threads)) m (s .own m)
+
+-- a proper word is one of 32 bits
+proper-word : (threads w : ℕ) → threads ≤ mostThreads → Proper threads w → w ≤ mostWord
+proper-word threads w few is =
+    or-way (ltb w (2 ^ threads)) _ is (λ x. let l = ltb-true w (2 ^ threads) x in let m = pow-mono few in omega arith)
+    (λ x.
+    let e : w % sets ≡ 0 = eqb-true (w % sets) 0 (and-left (eqb (w % sets) 0) _ x) in
+    let l : w / sets ≤ threads = leb-true (w / sets) threads (and-right (eqb (w % sets) 0) _ x) in
+    omega arith)
 
 pub ranged-fresh : (t n p d : ℕ) → inLimits t n p d ≡ true → Ranged (fresh t n p d)
 ranged-fresh t n p d l =
@@ -57,19 +76,19 @@ ranged-fresh t n p d l =
       owner = omega arith;
       thread = λ v. record { sound = λ _. inl refl; c = omega arith; past = λ _. refl };
       map = λ k. omega arith;
-      locks = λ k. omega arith;
+      locks = λ k. record { low = λ _. none-proper t; past = λ _. refl };
       header = λ k. omega arith;
       content = λ k. omega arith;
       wear = λ k. omega arith;
-      own = λ k. omega arith;
+      own = λ k. record { low = λ _. none-proper t; past = λ _. refl };
     }
 
 -- ---- what a well-formed area holds, if it is of bytes, is in range
 
--- a table of an area, of entries that are at most a bound
-column-cell : (at : ℕ → ℕ) (from stride size bound : ℕ) → ((k : ℕ) → k < size → column at from stride size k ≤ bound) →
-    (k : ℕ) → Cell size bound k (column at from stride size k)
-column-cell at from stride size bound low k = record { low = low k; past = λ h. rw (le-ltb k size h) }
+-- a table of an area, of entries that are in bounds
+column-cell : (at : ℕ → ℕ) (from stride size : ℕ) (In : ℕ → Type 0) → ((k : ℕ) → k < size → In (column at from stride size k)) →
+    (k : ℕ) → Cell size In k (column at from stride size k)
+column-cell at from stride size In low k = record { low = low k; past = λ h. rw (le-ltb k size h) }
 
 -- any words will do
 column-word : (a : List ℕ) → Bytes a → (from stride size k : ℕ) → k < size → column (word a) from stride size k ≤ mostWord
@@ -86,12 +105,12 @@ decode-ranged a h S =
         c = either-way (ltb t (word a tAt)) (λ b. rw b (word-low a h _)) (λ b. rw b (omega arith));
         past = λ b. rw (le-ltb t (word a tAt) b);
       };
-      map = column-cell (word a) _ _ _ _ (S .map);
-      locks = column-cell (word a) _ _ _ _ (S .locks);
-      header = column-cell (word a) _ _ _ _ (S .header);
-      content = column-cell (word a) _ _ _ _ (column-word a h _ _ _);
-      wear = column-cell (word a) _ _ _ _ (column-word a h _ _ _);
-      own = column-cell (word a) _ _ _ _ (S .own);
+      map = column-cell (word a) _ _ _ (AtMost (decode a .blocks)) (S .map);
+      locks = column-cell (word a) _ _ _ (Proper (decode a .threads)) (S .locks);
+      header = column-cell (word a) _ _ _ (AtMost (decode a .numbers)) (S .header);
+      content = column-cell (word a) _ _ _ (AtMost mostWord) (column-word a h _ _ _);
+      wear = column-cell (word a) _ _ _ (AtMost mostWord) (column-word a h _ _ _);
+      own = column-cell (word a) _ _ _ (Proper (decode a .threads)) (S .own);
     }
 
 -- ---- the area of a store in range is well formed, of bytes, and holds the store
@@ -118,7 +137,7 @@ module _ (s : Store) (R : Ranged s) where
       let a = R .header m .low h in
       let b = R .content m .low h in
       let c = R .wear m .low h in
-      let d = R .own m .low h in
+      let d = proper-word (s .threads) (s .own m) (z .t-high) (R .own m .low h) in
       omega arith
 
   words-low : OfWords (words s)
@@ -136,7 +155,8 @@ module _ (s : Store) (R : Ranged s) where
       (low-append heads threads (omega arith)
       (low-rows (s .threads) 0 (λ t. threadRow (s .thread t)) (λ t h. thread-low t (omega arith))))
       (low-rows (s .numbers) 0 (λ k. s .map k ∷ []) (λ k h. let x = R .map k .low (omega arith) in omega arith)))
-      (low-rows (s .numbers) 0 (λ k. s .locks k ∷ []) (λ k h. let x = R .locks k .low (omega arith) in omega arith)))
+      (low-rows (s .numbers) 0 (λ k. s .locks k ∷ [])
+      (λ k h. let x = proper-word (s .threads) (s .locks k) (z .t-high) (R .locks k .low (omega arith)) in omega arith)))
       (low-rows (s .blocks) 0 (blockRow s) (λ m h. block-low m (omega arith)))
 
   pub ranged-sound : Sound s
@@ -185,7 +205,7 @@ sound-ranged s S I =
 worn-word : (w : ℕ) → w ≤ mostWord → worn w ≤ mostWord
 worn-word w low = either-way (ltb w mostWord) (λ x. let y = ltb-true w mostWord x in rw x (omega arith)) (λ x. rw x low)
 
-cell-word : (size k w : ℕ) → Cell size mostWord k w → w ≤ mostWord
+cell-word : (size k w : ℕ) → Cell size (AtMost mostWord) k w → w ≤ mostWord
 cell-word size k w x =
     either-way (ltb k size) (λ b. x .low (ltb-true k size b)) (λ b. let y = x .past (ltb-false k size b) in omega arith)
 

@@ -13,6 +13,7 @@ use Rattle.meaning.specs.declared.Thread.{Thread}
 use Rattle.meaning.specs.Table.{every}
 use Rattle.meaning.specs.Limits.{least, mostThreads, mostNumbers, mostBlocks, mostDistance, within, inLimits}
 use Rattle.meaning.specs.Store.{Store, idle}
+use Rattle.meaning.specs.Holding.{proper}
 use Rattle.meaning.specs.Programs.{WRITE, LEVEL, lastLine}
 use Rattle.meaning.specs.Call.{isIdle}
 use Rattle.meaning.proofs.Base.Words.{either-way, clash, every-at, all-every, and-left, and-right, within-true}
@@ -174,9 +175,9 @@ pub record Sound (s : Store) : Type 0 where
   pub owner : s .owner ≤ s .threads
   pub thread : (t : ℕ) → t < s .threads → SoundThread (s .numbers) (s .blocks) (s .thread t)
   pub map : (n : ℕ) → n < s .numbers → s .map n ≤ s .blocks
-  pub locks : (n : ℕ) → n < s .numbers → s .locks n ≤ s .threads
+  pub locks : (n : ℕ) → n < s .numbers → proper (s .threads) (s .locks n) ≡ true
   pub header : (m : ℕ) → m < s .blocks → s .header m ≤ s .numbers
-  pub own : (m : ℕ) → m < s .blocks → s .own m ≤ s .threads
+  pub own : (m : ℕ) → m < s .blocks → proper (s .threads) (s .own m) ≡ true
 
 -- no entry of a table is over a bound
 table-bound : (f : ℕ → ℕ) (size bound : ℕ) → every size (λ k. leb (f k) bound) ≡ true → (k : ℕ) → k < size → f k ≤ bound
@@ -192,9 +193,9 @@ sound-facts s e =
     and-seven (leb (s .lock) (s .threads)) (leb (s .owner) (s .threads))
     (every (s .threads) (λ t. soundThread (s .numbers) (s .blocks) (s .thread t)))
     (every (s .numbers) (λ n. leb (s .map n) (s .blocks)))
-    (every (s .numbers) (λ n. leb (s .locks n) (s .threads)))
+    (every (s .numbers) (λ n. proper (s .threads) (s .locks n)))
     (every (s .blocks) (λ m. leb (s .header m) (s .numbers)))
-    (every (s .blocks) (λ m. leb (s .own m) (s .threads))) (and-right limits (inBounds s) e)
+    (every (s .blocks) (λ m. proper (s .threads) (s .own m))) (and-right limits (inBounds s) e)
     in
     record {
       sizes = limits-sizes _ _ _ _ (and-left limits (inBounds s) e);
@@ -203,9 +204,9 @@ sound-facts s e =
       thread =
           λ t h. thread-sound _ _ _ (every-at (s .threads) (λ t. soundThread (s .numbers) (s .blocks) (s .thread t)) (z .2) t h);
       map = table-bound (s .map) _ _ (z .3);
-      locks = table-bound (s .locks) _ _ (z .4);
+      locks = every-at (s .numbers) (λ n. proper (s .threads) (s .locks n)) (z .4);
       header = table-bound (s .header) _ _ (z .5);
-      own = table-bound (s .own) _ _ (z .6);
+      own = every-at (s .blocks) (λ m. proper (s .threads) (s .own m)) (z .6);
     }
 
 pub facts-sound : (s : Store) → Sound s → sound s ≡ true
@@ -219,9 +220,9 @@ facts-sound s f =
     (and-both (le-leb _ _ (f .lock)) (le-leb _ _ (f .owner)))
     (all-every (s .threads) (λ t. soundThread (s .numbers) (s .blocks) (s .thread t)) (λ t h. sound-thread _ _ _ (f .thread t h))))
     (bound-table (s .map) _ _ (f .map)))
-    (bound-table (s .locks) _ _ (f .locks)))
+    (all-every (s .numbers) (λ n. proper (s .threads) (s .locks n)) (f .locks)))
     (bound-table (s .header) _ _ (f .header)))
-    (bound-table (s .own) _ _ (f .own)))
+    (all-every (s .blocks) (λ m. proper (s .threads) (s .own m)) (f .own)))
 
 -- an open thread works, and stands at a line of its operation
 pub open-working : {n p : ℕ} {r : Thread} → SoundThread n p r → isIdle r ≡ false → Working n p r
@@ -241,6 +242,7 @@ pub near-bounded : (s : Store) → Sound s → (t : ℕ) → t < s .threads → 
 near-bounded s S t below r w =
     record {
       thread = below;
+      few = S .sizes .t-high;
       n = w .n-low;
       p = w .p-low;
       q = w .q-low;

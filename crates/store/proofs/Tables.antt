@@ -15,14 +15,16 @@ use Rattle.meaning.specs.declared.Word.{Word}
 use Rattle.meaning.specs.declared.Word.the-variants.{Stay, Become}
 use Rattle.meaning.specs.declared.Update.{Update}
 use Rattle.meaning.specs.declared.Update.the-variants.{Keep, Put}
+use Rattle.meaning.specs.declared.Pass.{Pass}
+use Rattle.meaning.specs.declared.Pass.the-variants.{Leave, Plus, Minus}
 use Rattle.meaning.specs.Table.{upd, below}
 use Rattle.meaning.specs.Store.{Store, idle}
-use Rattle.meaning.specs.Step.{put, apply, nothing, onLock, onOwner}
+use Rattle.meaning.specs.Step.{put, came, apply, nothing, onLock, onOwner}
 use Rattle.meaning.specs.Limits.{mostWord}
 use Rattle.meaning.proofs.Base.Words.{upd-same, upd-other, either-way}
 use Rattle.store.specs.Layout.{tAt, nAt, pAt, dAt, lockAt, ownerAt, threadsAt, threadWords, mapAt, locksAt, blocksAt, blockWords, size}
 use Rattle.store.specs.Area.{word, threadRow, threadFrom, column, storeOf, decode}
-use Rattle.store.specs.Live.{Live, Within, EntryWithin, BecomeFits, EntryFits, EntryBelow, Small, withEffect, putWord, putThread, putBecome, putEntry}
+use Rattle.store.specs.Live.{Live, Within, EntryWithin, PassWithin, BecomeFits, EntryFits, EntryBelow, PassBelow, Small, withEffect, putWord, putThread, putBecome, putEntry, passed}
 use Rattle.store.proofs.Bytes.{word-put, length-putWord, OfWords, putFrom, updFrom, word-putFrom, updFrom-other, updFrom-at}
 use Rattle.store.proofs.Decode.{decode-live, below-is}
 
@@ -225,28 +227,47 @@ module _ {a : List ℕ} {t n p : ℕ} (live : Live a t n p) (w x : ℕ) (inside 
 
 -- the effects on one table alone
 abbrev pub lockOnly : Word → Effect
-lockOnly w = record { lock = w; owner = Stay; map = Keep; locks = Keep; header = Keep; content = Keep; wear = Keep; own = Keep }
+lockOnly w = record { lock = w; owner = Stay; map = Keep; locks = Leave; header = Keep; content = Keep; wear = Keep; own = Leave }
 
 abbrev pub ownerOnly : Word → Effect
-ownerOnly w = record { lock = Stay; owner = w; map = Keep; locks = Keep; header = Keep; content = Keep; wear = Keep; own = Keep }
+ownerOnly w = record { lock = Stay; owner = w; map = Keep; locks = Leave; header = Keep; content = Keep; wear = Keep; own = Leave }
 
 abbrev pub mapOnly : Update → Effect
-mapOnly w = record { lock = Stay; owner = Stay; map = w; locks = Keep; header = Keep; content = Keep; wear = Keep; own = Keep }
+mapOnly w = record { lock = Stay; owner = Stay; map = w; locks = Leave; header = Keep; content = Keep; wear = Keep; own = Leave }
 
-abbrev pub locksOnly : Update → Effect
-locksOnly w = record { lock = Stay; owner = Stay; map = Keep; locks = w; header = Keep; content = Keep; wear = Keep; own = Keep }
+abbrev pub locksOnly : Pass → Effect
+locksOnly w = record { lock = Stay; owner = Stay; map = Keep; locks = w; header = Keep; content = Keep; wear = Keep; own = Leave }
 
 abbrev pub headerOnly : Update → Effect
-headerOnly w = record { lock = Stay; owner = Stay; map = Keep; locks = Keep; header = w; content = Keep; wear = Keep; own = Keep }
+headerOnly w = record { lock = Stay; owner = Stay; map = Keep; locks = Leave; header = w; content = Keep; wear = Keep; own = Leave }
 
 abbrev pub contentOnly : Update → Effect
-contentOnly w = record { lock = Stay; owner = Stay; map = Keep; locks = Keep; header = Keep; content = w; wear = Keep; own = Keep }
+contentOnly w = record { lock = Stay; owner = Stay; map = Keep; locks = Leave; header = Keep; content = w; wear = Keep; own = Leave }
 
 abbrev pub wearOnly : Update → Effect
-wearOnly w = record { lock = Stay; owner = Stay; map = Keep; locks = Keep; header = Keep; content = Keep; wear = w; own = Keep }
+wearOnly w = record { lock = Stay; owner = Stay; map = Keep; locks = Leave; header = Keep; content = Keep; wear = w; own = Leave }
 
-abbrev pub ownOnly : Update → Effect
-ownOnly w = record { lock = Stay; owner = Stay; map = Keep; locks = Keep; header = Keep; content = Keep; wear = Keep; own = w }
+abbrev pub ownOnly : Pass → Effect
+ownOnly w = record { lock = Stay; owner = Stay; map = Keep; locks = Leave; header = Keep; content = Keep; wear = Keep; own = w }
+
+-- a pass of table f, of so many entries: what it comes to, by the area's words
+module _ (a : List ℕ) (from stride count : ℕ) (f : ℕ → ℕ) where
+  pub passed-below : (c : Pass) → PassBelow count f c → EntryBelow count (passed a from stride c)
+  passed-below Leave h = tt
+  passed-below (Plus k m) h = h .0
+  passed-below (Minus k m) h = h .0
+
+  passed-came : (c : Pass) → PassBelow count f c → passed a from stride c ≡ came (column (word a) from stride count) c
+  passed-came Leave h = refl
+  passed-came (Plus k m) h = rw (lt-ltb k count (h .0))
+  passed-came (Minus k m) h = rw (lt-ltb k count (h .0))
+
+  within-pass :
+      f ≡ column (word a) from stride count → ((k : ℕ) → k < count → Within a (from + stride * k) × (pAt < from + stride * k)) →
+      (c : Pass) → PassBelow count f c → PassWithin a from stride c
+  within-pass is i Leave h = tt
+  within-pass is i (Plus k m) h = (i k (h .0) .0, rw (is, lt-ltb k count (h .0)) at (h .1))
+  within-pass is i (Minus k m) h = (i k (h .0) .0, rw (is, lt-ltb k count (h .0)) at (h .1))
 
 module _ {a : List ℕ} {t n p : ℕ} (live : Live a t n p) where
   -- the area stays live, whatever becomes of a word past the sizes
@@ -282,6 +303,14 @@ module _ {a : List ℕ} {t n p : ℕ} (live : Live a t n p) where
   pub header-inside : (k : ℕ) → k < p → Within a (blocksAt t n + blockWords * k) × (pAt < blocksAt t n + blockWords * k)
   header-inside k h = omega (arith, live .fits)
 
+  -- what a pass of the locks or of the owners asks
+  pub within-locks : (c : Pass) → PassBelow n (decode a .locks) c → PassWithin a (locksAt t n) 1 c
+  within-locks = within-pass a (locksAt t n) 1 n (decode a .locks) (ap (λ s. s .locks) (decode-live live)) locks-inside
+
+  pub within-own : (c : Pass) → PassBelow p (decode a .own) c → PassWithin a (blocksAt t n + 3) blockWords c
+  within-own =
+      within-pass a (blocksAt t n + 3) blockWords p (decode a .own) (ap (λ s. s .own) (decode-live live)) (blocks-inside 3 (omega arith))
+
   -- what becomes of each table of the decoded store
   pub decode-lock : (w : Word) → BecomeFits w → decode (putBecome a lockAt w) ≡ withEffect (decode a) (lockOnly w)
   decode-lock Stay f = refl
@@ -293,56 +322,66 @@ module _ {a : List ℕ} {t n p : ℕ} (live : Live a t n p) where
   decode-owner (Become x) f =
       decode-put live ownerAt x (omega (arith, live .fits)) (omega arith) f (onOwner x) (others (word a) t n p 1 ownerAt x (omega arith))
 
-  -- Table x of numbers is the column of so many words at from, from + stride, ..; `only` is the effect on it alone.
-  module _ (x from stride count : ℕ) (only : Update → Effect) (keeps : (s : Store) → s ≡ withEffect s (only Keep))
+  -- Table x of numbers is the column of so many words at from, from + stride, ..
+  module _ (x from stride count : ℕ) (keeps : storeOf (word a) t n p ≡ withTable x (column (word a) from stride count) (storeOf (word a) t n p))
       (reads : (at : ℕ → ℕ) (s : Store) → mixed x (storeOf at t n p) s ≡ withTable x (column at from stride count) s)
-      (makes : (at : ℕ → ℕ) (e : Update) → withTable x (put e (column at from stride count)) (storeOf at t n p) ≡ withEffect (storeOf at t n p) (only e))
       (apart : (k : ℕ) → k < count → Apart x t n p (from + stride * k) (from + stride * k + 1))
       (once : (k j : ℕ) → (k ≡ j → ⊥) → from + stride * k ≡ from + stride * j → ⊥)
       (inside : (k : ℕ) → k < count → Within a (from + stride * k) × (pAt < from + stride * k)) where
-    decode-entry : (e : Update) → EntryBelow count e → EntryFits e → decode (putEntry a from stride e) ≡ withEffect (decode a) (only e)
-    decode-entry Keep h f = keeps (decode a)
-    decode-entry (Put k v) h f =
-        decode-put live (from + stride * k) v (inside k h .0) (inside k h .1) f (only (Put k v))
+    -- effect o puts e to it and does nothing else
+    decode-entry :
+        (e : Update) (o : Effect) →
+        withTable x (put e (column (word a) from stride count)) (storeOf (word a) t n p) ≡ withEffect (storeOf (word a) t n p) o →
+        EntryBelow count e → EntryFits e → decode (putEntry a from stride e) ≡ withEffect (decode a) o
+    decode-entry Keep o makes h f = decode-live live ∙ keeps ∙ makes ∙ ap (λ s. withEffect s o) (sym (decode-live live))
+    decode-entry (Put k v) o makes h f =
+        decode-put live (from + stride * k) v (inside k h .0) (inside k h .1) f o
         (others (word a) t n p x (from + stride * k) v (apart k h)
         ∙ reads (upd (word a) (from + stride * k) v) (storeOf (word a) t n p)
         ∙ ap (λ g. withTable x g (storeOf (word a) t n p)) (column-put (word a) from stride count k v h (once k))
-        ∙ makes (word a) (Put k v))
+        ∙ makes)
 
   pub decode-map : (e : Update) → EntryBelow n e → EntryFits e → decode (putEntry a (mapAt t) 1 e) ≡ withEffect (decode a) (mapOnly e)
-  decode-map =
-      decode-entry 3 (mapAt t) 1 n mapOnly (λ s. refl) (λ at s. refl) (λ at e. refl) (λ k h. omega arith) (λ k j o e. omega arith)
-      map-inside
+  decode-map e =
+      decode-entry 3 (mapAt t) 1 n refl (λ at s. refl) (λ k h. omega arith) (λ k j o e. omega arith) map-inside e (mapOnly e) refl
 
   pub decode-locks :
-      (e : Update) → EntryBelow n e → EntryFits e → decode (putEntry a (locksAt t n) 1 e) ≡ withEffect (decode a) (locksOnly e)
-  decode-locks =
-      decode-entry 4 (locksAt t n) 1 n locksOnly (λ s. refl) (λ at s. refl) (λ at e. refl) (λ k h. omega arith) (λ k j o e. omega arith)
-      locks-inside
+      (c : Pass) → PassBelow n (decode a .locks) c → EntryFits (passed a (locksAt t n) 1 c) →
+      decode (putEntry a (locksAt t n) 1 (passed a (locksAt t n) 1 c)) ≡ withEffect (decode a) (locksOnly c)
+  decode-locks c h =
+      decode-entry 4 (locksAt t n) 1 n refl (λ at s. refl) (λ k h. omega arith) (λ k j o e. omega arith) locks-inside
+      (passed a (locksAt t n) 1 c) (locksOnly c)
+      (ap (λ e. withTable 4 (put e (column (word a) (locksAt t n) 1 n)) (storeOf (word a) t n p))
+      (passed-came a (locksAt t n) 1 n (decode a .locks) c h))
+      (passed-below a (locksAt t n) 1 n (decode a .locks) c h)
 
   pub decode-header :
       (e : Update) → EntryBelow p e → EntryFits e → decode (putEntry a (blocksAt t n) blockWords e) ≡ withEffect (decode a) (headerOnly e)
-  decode-header =
-      decode-entry 5 (blocksAt t n) blockWords p headerOnly (λ s. refl) (λ at s. refl) (λ at e. refl) (λ k h. omega arith)
-      (λ k j o e. omega arith) header-inside
+  decode-header e =
+      decode-entry 5 (blocksAt t n) blockWords p refl (λ at s. refl) (λ k h. omega arith) (λ k j o e. omega arith) header-inside
+      e (headerOnly e) refl
 
   pub decode-content :
       (e : Update) → EntryBelow p e → EntryFits e → decode (putEntry a (blocksAt t n + 1) blockWords e) ≡ withEffect (decode a) (contentOnly e)
-  decode-content =
-      decode-entry 6 (blocksAt t n + 1) blockWords p contentOnly (λ s. refl) (λ at s. refl) (λ at e. refl) (λ k h. omega arith)
-      (λ k j o e. omega arith) (blocks-inside 1 (omega arith))
+  decode-content e =
+      decode-entry 6 (blocksAt t n + 1) blockWords p refl (λ at s. refl) (λ k h. omega arith) (λ k j o e. omega arith)
+      (blocks-inside 1 (omega arith)) e (contentOnly e) refl
 
   pub decode-wear :
       (e : Update) → EntryBelow p e → EntryFits e → decode (putEntry a (blocksAt t n + 2) blockWords e) ≡ withEffect (decode a) (wearOnly e)
-  decode-wear =
-      decode-entry 7 (blocksAt t n + 2) blockWords p wearOnly (λ s. refl) (λ at s. refl) (λ at e. refl) (λ k h. omega arith)
-      (λ k j o e. omega arith) (blocks-inside 2 (omega arith))
+  decode-wear e =
+      decode-entry 7 (blocksAt t n + 2) blockWords p refl (λ at s. refl) (λ k h. omega arith) (λ k j o e. omega arith)
+      (blocks-inside 2 (omega arith)) e (wearOnly e) refl
 
   pub decode-own :
-      (e : Update) → EntryBelow p e → EntryFits e → decode (putEntry a (blocksAt t n + 3) blockWords e) ≡ withEffect (decode a) (ownOnly e)
-  decode-own =
-      decode-entry 8 (blocksAt t n + 3) blockWords p ownOnly (λ s. refl) (λ at s. refl) (λ at e. refl) (λ k h. omega arith)
-      (λ k j o e. omega arith) (blocks-inside 3 (omega arith))
+      (c : Pass) → PassBelow p (decode a .own) c → EntryFits (passed a (blocksAt t n + 3) blockWords c) →
+      decode (putEntry a (blocksAt t n + 3) blockWords (passed a (blocksAt t n + 3) blockWords c)) ≡ withEffect (decode a) (ownOnly c)
+  decode-own c h =
+      decode-entry 8 (blocksAt t n + 3) blockWords p refl (λ at s. refl) (λ k h. omega arith) (λ k j o e. omega arith)
+      (blocks-inside 3 (omega arith)) (passed a (blocksAt t n + 3) blockWords c) (ownOnly c)
+      (ap (λ e. withTable 8 (put e (column (word a) (blocksAt t n + 3) blockWords p)) (storeOf (word a) t n p))
+      (passed-came a (blocksAt t n + 3) blockWords p (decode a .own) c h))
+      (passed-below a (blocksAt t n + 3) blockWords p (decode a .own) c h)
 
   -- several words past the sizes that are put
   live-putFrom : {b : List ℕ} → Live b t n p → (i e : ℕ) (vs : List ℕ) → pAt < i → 4 * (i + e + length vs) ≤ size t n p → OfWords vs → Live (putFrom b i e vs) t n p

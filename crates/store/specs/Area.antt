@@ -1,5 +1,5 @@
--- The store area: 01, "Sizes and the store area". An area is a list of bytes; its words, the store that it holds (`decode`), the area
--- of a store (`encode`), and when it is well formed.
+-- The store area: 01, "Sizes and the store area", with locks and owners as 02, §3, has them. An area is a list of bytes; its words, the store that
+-- it holds (`decode`), the area of a store (`encode`), and when it is well formed.
 use mathlib.Core.Bool.{Bool, cond, _&&_}
 use mathlib.Core.List.{List, [], _∷_, _++_}
 use Prim.Native.Nat.{ℕ, zero, suc, _+_, _*_, _/_, _%_, _<_}
@@ -9,6 +9,7 @@ use Rattle.meaning.specs.declared.Thread.{Thread}
 use Rattle.meaning.specs.Table.{below, every}
 use Rattle.meaning.specs.Limits.{inLimits, within}
 use Rattle.meaning.specs.Store.{Store, idle}
+use Rattle.meaning.specs.Holding.{proper}
 use Rattle.meaning.specs.Programs.{LEVEL, lastLine}
 use Rattle.store.specs.Layout.{tAt, nAt, pAt, dAt, lockAt, ownerAt, threadsAt, threadWords, mapAt, locksAt, blocksAt, blockWords, size}
 
@@ -107,16 +108,17 @@ working n p r =
 abbrev pub soundThread : ℕ → ℕ → Thread → Bool
 soundThread n p r = cond (eqb (r .op) 0) (zeros r) (working n p r)
 
--- no lock or owner over T, no map entry over P, no header over N; of contents, register c and wear nothing is asked
+-- H and the headers' owner at most T, no map entry over P, no header over N; a lock of a number and an owner of a block has no readers and
+-- writer together, and no member or writer that isn't below T (02, §3); of contents, register c and wear nothing is asked
 abbrev pub inBounds : Store → Bool
 inBounds s =
     leb (s .lock) (s .threads)
     && leb (s .owner) (s .threads)
     && every (s .threads) (λ t. soundThread (s .numbers) (s .blocks) (s .thread t))
     && every (s .numbers) (λ n. leb (s .map n) (s .blocks))
-    && every (s .numbers) (λ n. leb (s .locks n) (s .threads))
+    && every (s .numbers) (λ n. proper (s .threads) (s .locks n))
     && every (s .blocks) (λ m. leb (s .header m) (s .numbers))
-    && every (s .blocks) (λ m. leb (s .own m) (s .threads))
+    && every (s .blocks) (λ m. proper (s .threads) (s .own m))
 
 -- sizes that keep to their limits, and every word in its bounds
 abbrev pub sound : Store → Bool

@@ -9,10 +9,12 @@ use Rattle.meaning.specs.declared.Word.{Word}
 use Rattle.meaning.specs.declared.Word.the-variants.{Stay, Become}
 use Rattle.meaning.specs.declared.Update.{Update}
 use Rattle.meaning.specs.declared.Update.the-variants.{Keep, Put}
+use Rattle.meaning.specs.declared.Pass.{Pass}
+use Rattle.meaning.specs.declared.Pass.the-variants.{Leave, Plus, Minus}
 use Rattle.meaning.specs.Limits.{mostThreads, mostNumbers, mostBlocks, mostWord}
 use Rattle.meaning.specs.Store.{Store}
 use Rattle.meaning.specs.declared.Effect.{Effect}
-use Rattle.meaning.specs.Step.{changed}
+use Rattle.meaning.specs.Step.{came, changed}
 use Rattle.store.specs.declared.Store.{Store as WorkingStore}
 use Rattle.store.specs.Layout.{tAt, nAt, pAt, threadWords, size}
 use Rattle.store.specs.Area.{word, threadFrom}
@@ -33,6 +35,12 @@ abbrev pub EntryWithin : List ℕ → ℕ → ℕ → Update → Type 0
 EntryWithin a from stride Keep = Unit {0}
 EntryWithin a from stride (Put k v) = Within a (from + stride * k)
 
+-- the entry of a column that is added to or taken off, if any, is within the area, and what it comes to is a word
+abbrev pub PassWithin : List ℕ → ℕ → ℕ → Pass → Type 0
+PassWithin a from stride Leave = Unit {0}
+PassWithin a from stride (Plus k m) = Within a (from + stride * k) × (word a (from + stride * k) + m ≤ mostWord)
+PassWithin a from stride (Minus k m) = Within a (from + stride * k) × (m ≤ word a (from + stride * k))
+
 -- the words of a column are within the area
 abbrev pub Reaches : List ℕ → ℕ → ℕ → ℕ → Type 0
 Reaches a from stride count = (k : ℕ) → k < count → Within a (from + stride * k)
@@ -50,6 +58,12 @@ EntryFits (Put k v) = v ≤ mostWord
 abbrev pub EntryBelow : ℕ → Update → Type 0
 EntryBelow n Keep = Unit {0}
 EntryBelow n (Put k v) = k < n
+
+-- the entry of table f that is added to or taken off, if any, is one of so many, and what it comes to is a word
+abbrev pub PassBelow : ℕ → (ℕ → ℕ) → Pass → Type 0
+PassBelow n f Leave = Unit {0}
+PassBelow n f (Plus k m) = (k < n) × (f k + m ≤ mostWord)
+PassBelow n f (Minus k m) = (k < n) × (m ≤ f k)
 
 -- a thread's record whose registers are words
 pub record Small (r : Thread) : Type 0 where
@@ -95,6 +109,10 @@ putBecome a k (Become v) = putWord a k v
 abbrev pub putEntry : List ℕ → ℕ → ℕ → Update → List ℕ
 putEntry a from stride Keep = a
 putEntry a from stride (Put k v) = putWord a (from + stride * k) v
+
+-- what a pass of that column comes to
+abbrev pub passed : List ℕ → ℕ → ℕ → Pass → Update
+passed a from stride c = came (λ k. word a (from + stride * k)) c
 
 -- ---- the working store
 

@@ -5,10 +5,12 @@ ghost use Prim.Native.Nat.{_+_, _*_, _<_, _≤_};
 ghost use lib.Dec.{leb};
 ghost use Rattle.meaning.specs.Table.{every};
 ghost use Rattle.meaning.specs.Limits.{mostThreads, mostNumbers, mostBlocks, inLimits};
+ghost use Rattle.meaning.specs.Holding.{proper};
 ghost use Rattle.meaning.specs.Programs.{lastLine};
 ghost use Rattle.store.specs.Layout.{threadsAt, threadWords, blockWords, mapAt, locksAt, blocksAt, size};
 ghost use Rattle.store.specs.Area.{word, threadFrom, column, decode, soundThread, inBounds, wellFormed};
-ghost use Rattle.store.specs.Live.{Live, Within, EntryWithin, BecomeFits, EntryFits, Small, Reaches, Fills, table, zeroFilled, putWord, putThread, putBecome, putEntry};
+ghost use Rattle.store.specs.Live.{Live, Within, EntryWithin, PassWithin, BecomeFits, EntryFits, Small, Reaches, Fills, table, zeroFilled, putWord, putThread, putBecome, putEntry, passed as passedOf};
+use meaning::Pass;
 use meaning::Thread;
 use meaning::Update;
 use meaning::Word;
@@ -188,6 +190,27 @@ fn all_at_most(area: &[u8], from: usize, stride: usize, count: usize, bound: u32
     all
 }
 
+// Over 16 bits of readers stands the writer: a word of document 02, §3, is a set plus this times the writer's word.
+const SETS: u32 = 65536;
+
+// Every word of a column is proper for t threads: a set whose members are below t, or no members and a writer below t, or nobody. There is
+// no early way out here either.
+fn all_proper(area: &[u8], from: usize, stride: usize, count: usize, t: u32) -> bool
+    requires { ⌜ Reaches (now area) from stride count × (t ≤ mostThreads) ⌝ }
+    ensures { λ r. ⌜ r ≡ every count (λ k. proper t (word (now (area .entry)) (from + stride * k))) ⌝ }
+{
+    let members: u32 = 1 << t;
+    let mut all = true;
+    let mut k: usize = 0;
+    while k < count {
+        let cell = from + stride * k;
+        let w = word_at(area, cell);
+        all = all & ((w < members) | ((w % SETS == 0) & (w / SETS <= t)));
+        k += 1;
+    }
+    all
+}
+
 const LAST_LINES: [u32; 5] = [0, 16, 6, 11, 18];
 
 // The last line of an operation, 0 for what is none.
@@ -258,9 +281,9 @@ fn words_sound(area: &[u8], t: u32, n: u32, p: u32) -> bool
         & (word_at(area, OWNER_AT) <= t)
         & threads_sound(area, threads, n, p)
         & all_at_most(area, map, 1, numbers, p)
-        & all_at_most(area, locks, 1, numbers, t)
+        & all_proper(area, locks, 1, numbers, t)
         & all_at_most(area, header, BLOCK_WORDS, blocks, n)
-        & all_at_most(area, header + OWN, BLOCK_WORDS, blocks, t)
+        & all_proper(area, header + OWN, BLOCK_WORDS, blocks, t)
 }
 
 // The area is well formed.
@@ -310,6 +333,27 @@ pub fn set_entry(area: &mut [u8], from: usize, stride: usize, e: Update)
             put_word(area, cell, v);
         }
     }
+}
+
+// What a pass of such a column comes to.
+fn passed(area: &[u8], from: usize, stride: usize, c: Pass) -> Update
+    requires { ⌜ PassWithin (now area) from stride c ⌝ }
+    ensures { λ e. ⌜ e ≡ passedOf (now (area .entry)) from stride c ⌝ }
+{
+    match c {
+        Pass::Leave => Update::Keep,
+        Pass::Plus(k, m) => Update::Put(k, word_at(area, from + stride * (k as usize)) + m),
+        Pass::Minus(k, m) => Update::Put(k, word_at(area, from + stride * (k as usize)) - m),
+    }
+}
+
+// What becomes of the block locks or of the owners of blocks.
+pub fn set_pass(area: &mut [u8], from: usize, stride: usize, c: Pass)
+    requires { ⌜ PassWithin (now area) from stride c ⌝ }
+    ensures { λ _. ⌜ (now (area .exit) ≡ putEntry (now (area .entry)) from stride (passedOf (now (area .entry)) from stride c)) × EntryFits (passedOf (now (area .entry)) from stride c) ⌝ }
+{
+    let e = passed(area, from, stride, c);
+    set_entry(area, from, stride, e);
 }
 
 pub fn set_thread(area: &mut [u8], k: usize, r: Thread)

@@ -99,7 +99,7 @@ returns-5 c =
 settle-requires : tie.Need-settle-requires
 settle-requires c κs =
     let o = opened (below (read (resting (named (numbered c))))) in
-    (o .live, o .below, rw (c .nothing .ensures) (nowhere _ _))
+    (o .live, o .below, rw (c .nothing .ensures) (nowhere _ _ _))
 
 returns-6 : tie.Need-returns-6
 returns-6 c =

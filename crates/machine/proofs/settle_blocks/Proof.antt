@@ -8,9 +8,9 @@ use Rattle.meaning.specs.Store.{Store}
 use Rattle.store.specs.Layout.{blocksAt, blockWords}
 use Rattle.store.specs.Area.{decode}
 use Rattle.store.specs.Live.{withEffect}
-use Rattle.store.proofs.Tables.{headerOnly, contentOnly, wearOnly, ownOnly, header-inside, blocks-inside, decode-header, decode-content, decode-wear, decode-own}
+use Rattle.store.proofs.Tables.{headerOnly, contentOnly, wearOnly, ownOnly, header-inside, blocks-inside, within-own, decode-header, decode-content, decode-wear, decode-own}
 use Rattle.machine.specs.Settling.{Stored}
-use Rattle.machine.proofs.Storing.{stored-start, stored-entry, entry-within}
+use Rattle.machine.proofs.Storing.{stored-start, stored-entry, stored-pass, own-fit, entry-within}
 use Rattle.machine.proofs.settle_blocks.Statement.{statement}
 use Rattle.machine.proofs.settle_blocks.Tie as tie
 
@@ -90,13 +90,12 @@ set-entry-requires-3 c κs =
     entry-within live (blocksAt (w .args .z .t) (w .args .z .n) + 2) blockWords (w .args .z .p) _ (w .args .wear) (begins h 2) (w .pre .3)
     (blocks-inside live 2 (omega arith))
 
-set-entry-requires-4 : tie.Need-set-entry-requires-4
-set-entry-requires-4 c κs =
+set-pass-requires : tie.Need-set-pass-requires
+set-pass-requires c κs =
     let h = header-set (content-set (c .before .before .before)) in
     let w = start h in
-    let live = worn (c .before .before .before) .live in
-    entry-within live (blocksAt (w .args .z .t) (w .args .z .n) + 3) blockWords (w .args .z .p) _ (w .args .own) (begins h 3) (w .pre .4)
-    (blocks-inside live 3 (omega arith))
+    let r = worn (c .before .before .before) in
+    rw (begins h 3) (within-own (r .live) (w .args .own) (own-fit r (w .args .z .p) (w .args .own) (w .pre .4)))
 
 returns : tie.Need-returns
 returns c =
@@ -105,12 +104,12 @@ returns c =
     let h = header-set (content-set x) in
     let w = start h in
     let r = worn x in
-    stored-entry r (blocksAt (w .args .z .t) (w .args .z .n) + 3) blockWords (w .args .z .p) _ (w .args .own) (ownOnly (w .args .own)) (begins h 3)
-    (set .set-entry4 .ensures .0) (set .set-entry4 .ensures .1) (w .pre .4) (blocks-inside (r .live) 3 (omega arith))
-    (decode-own (r .live) (w .args .own) (w .pre .4) (set .set-entry4 .ensures .1))
+    let fit = own-fit r (w .args .z .p) (w .args .own) (w .pre .4) in
+    stored-pass r (blocksAt (w .args .z .t) (w .args .z .n) + 3) blockWords (w .args .z .p) _ _ (w .args .own) (ownOnly (w .args .own)) (begins h 3)
+    (set .set-pass .ensures) fit (blocks-inside (r .live) 3 (omega arith)) (decode-own (r .live) (w .args .own) fit)
 
 pub settle-blocks-spec : {M : Type 1} → statement M
 settle-blocks-spec =
     tie.close
     (tie.spec (λ c κs. search needs) set-entry-requires (λ c. search needs) set-entry-requires-2 (λ c. search needs)
-    set-entry-requires-3 (λ c. search needs) set-entry-requires-4 (λ c. search needs) returns)
+    set-entry-requires-3 (λ c. search needs) set-pass-requires (λ c. search needs) returns)

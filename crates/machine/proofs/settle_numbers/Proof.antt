@@ -6,9 +6,9 @@ use Rattle.meaning.specs.Store.{Store}
 use Rattle.store.specs.Layout.{mapAt, locksAt}
 use Rattle.store.specs.Area.{decode}
 use Rattle.store.specs.Live.{withEffect}
-use Rattle.store.proofs.Tables.{lockOnly, ownerOnly, mapOnly, locksOnly, map-inside, locks-inside, decode-map, decode-locks}
+use Rattle.store.proofs.Tables.{lockOnly, ownerOnly, mapOnly, locksOnly, map-inside, locks-inside, within-locks, decode-map, decode-locks}
 use Rattle.machine.specs.Settling.{Stored}
-use Rattle.machine.proofs.Storing.{stored-start, stored-lock, stored-owner, stored-entry, entry-within}
+use Rattle.machine.proofs.Storing.{stored-start, stored-lock, stored-owner, stored-entry, stored-pass, locks-fit, entry-within}
 use Rattle.machine.proofs.settle_numbers.Statement.{statement}
 use Rattle.machine.proofs.settle_numbers.Tie as tie
 
@@ -57,13 +57,13 @@ set-entry-requires c κs =
     entry-within live (mapAt (w .args .z .t)) 1 (w .args .z .n) _ (w .args .map) (begins o .before .map-at .ensures) (w .pre .1)
     (map-inside live)
 
-set-entry-requires-2 : tie.Need-set-entry-requires-2
-set-entry-requires-2 c κs =
+set-pass-requires : tie.Need-set-pass-requires
+set-pass-requires c κs =
     let m = c .before .before .before in
     let w = start (owner-set m) in
-    let live = mapped m .live in
-    entry-within live (locksAt (w .args .z .t) (w .args .z .n)) 1 (w .args .z .n) _ (w .args .locks) (begins (owner-set m) .locks-at .ensures)
-    (w .pre .2) (locks-inside live)
+    let r = mapped m in
+    rw (begins (owner-set m) .locks-at .ensures)
+    (within-locks (r .live) (w .args .locks) (locks-fit r (w .args .z .n) (w .args .locks) (w .pre .2)))
 
 returns : tie.Need-returns
 returns c =
@@ -71,12 +71,12 @@ returns c =
     let m = set .before .before .before .before in
     let w = start (owner-set m) in
     let r = mapped m in
-    stored-entry r (locksAt (w .args .z .t) (w .args .z .n)) 1 (w .args .z .n) _ (w .args .locks) (locksOnly (w .args .locks))
-    (begins (owner-set m) .locks-at .ensures) (set .set-entry2 .ensures .0) (set .set-entry2 .ensures .1) (w .pre .2) (locks-inside (r .live))
-    (decode-locks (r .live) (w .args .locks) (w .pre .2) (set .set-entry2 .ensures .1))
+    let fit = locks-fit r (w .args .z .n) (w .args .locks) (w .pre .2) in
+    stored-pass r (locksAt (w .args .z .t) (w .args .z .n)) 1 (w .args .z .n) _ _ (w .args .locks) (locksOnly (w .args .locks))
+    (begins (owner-set m) .locks-at .ensures) (set .set-pass .ensures) fit (locks-inside (r .live)) (decode-locks (r .live) (w .args .locks) fit)
 
 pub settle-numbers-spec : {M : Type 1} → statement M
 settle-numbers-spec =
     tie.close
     (tie.spec (λ c κs. search needs) (λ c κs. search needs) (λ c κs. search needs) (λ c κs. search needs)
-    set-entry-requires set-entry-requires-2 (λ c. search needs) returns)
+    set-entry-requires set-pass-requires (λ c. search needs) returns)

@@ -1,6 +1,6 @@
 -- Laws of words that are 0 or a number plus one (specs/Holding), of entries of a table, and of tests.
 -- Assumes nothing.
-use mathlib.Core.Path.{_≡_, refl, sym, _∙_}
+use mathlib.Core.Path.{_≡_, refl, sym}
 use mathlib.Core.Bool.{Bool, true, false, not, _&&_, _||_}
 use Prim.Native.Nat.{ℕ, zero, suc, _+_, _-_, _<_, _≤_}
 use native.Mathlib.Omega.{arith}
@@ -28,6 +28,9 @@ pub two-ways : (a b : Bool) → (a ≡ true → b ≡ true) → (b ≡ true → 
 two-ways true b f g = sym (f refl)
 two-ways false true f g = g refl
 two-ways false false f g = refl
+
+pub eqb-swap : (j k : ℕ) → eqb j k ≡ eqb k j
+eqb-swap j k = two-ways (eqb j k) (eqb k j) (λ x. eq-eqb k j (sym (eqb-true j k x))) (λ x. eq-eqb j k (sym (eqb-true k j x)))
 
 -- two tests go the same way
 abbrev pub alike : Bool → Bool → Bool
@@ -67,7 +70,7 @@ pub within-true : (low high x : ℕ) → within low high x ≡ true → (low ≤
 within-true low high x e =
     (leb-true low x (and-left (leb low x) _ e), leb-true x high (and-right (leb low x) _ e))
 
--- ---- lock and owner words
+-- ---- lock and owner words that have one thread: H and the headers' owner
 
 pub by-held : (t : ℕ) → heldBy t (by t) ≡ true
 by-held t = same (t + 1)
@@ -107,26 +110,6 @@ nobody-free w nobody = either-way (free w) (λ f. f) (λ f. let x = held-by w f 
 pub alone-free : (t w : ℕ) → heldBy t w ≡ false → ((v : ℕ) → heldBy v w ≡ true → t ≡ v) → free w ≡ true
 alone-free t w lacks alone =
     nobody-free w (λ v. either-way (heldBy v w) (λ h. rw (← alone v h) lacks) (λ h. h))
-
--- and what only t gets or gives up, seen where t hasn't it
-pub turned-free : (t w w′ : ℕ) → ((v : ℕ) → (t ≡ v → ⊥) → heldBy v w ≡ heldBy v w′) → heldBy t w ≡ false → heldBy t w′ ≡ true →
-    free w ≡ true
-turned-free t w w′ others lacks has =
-    alone-free t w lacks
-    (λ v h. either-way (eqb t v) (λ x. eqb-true t v x)
-    (λ x. held-once t v w′ has (sym (others v (eqb-false t v x)) ∙ h)))
-
--- words that the same threads hold are equal
-pub held-same : (w w′ : ℕ) → ((v : ℕ) → heldBy v w′ ≡ heldBy v w) → w′ ≡ w
-held-same w w′ alike =
-    either-way (free w)
-    (λ f.
-    let z : w ≡ none = eqb-true w 0 f in
-    let y : w′ ≡ none = eqb-true w′ 0 (nobody-free w′ (λ v. alike v ∙ free-held v w f)) in
-    y ∙ sym z)
-    (λ f.
-    let x = held-by w f in
-    held-is (x .0) w′ (alike (x .0) ∙ x .1) ∙ sym (held-is (x .0) w (x .1)))
 
 -- a word that only threads below a bound hold is at most the bound
 pub held-below : (w bound : ℕ) → ((v : ℕ) → heldBy v w ≡ true → v < bound) → w ≤ bound

@@ -9,21 +9,25 @@ use Prim.Native.Nat.{ℕ, _+_, _-_, _<_, _≤_}
 use native.Mathlib.Omega.{arith}
 use lib.Dec.{eqb}
 use borrow.Author.Tests.{eqb-true, eqb-false}
+use Rattle.meaning.specs.declared.Kind.{Kind}
+use Rattle.meaning.specs.declared.Kind.the-variants.{Writer}
 use Rattle.meaning.specs.declared.Thread.{Thread}
 use Rattle.meaning.specs.declared.Word.{Word}
 use Rattle.meaning.specs.declared.Word.the-variants.{Stay, Become}
 use Rattle.meaning.specs.declared.Update.{Update}
 use Rattle.meaning.specs.declared.Update.the-variants.{Keep, Put}
+use Rattle.meaning.specs.declared.Pass.{Pass}
 use Rattle.meaning.specs.declared.Effect.{Effect}
 use Rattle.meaning.specs.Table.{every}
-use Rattle.meaning.specs.Limits.{within}
+use Rattle.meaning.specs.Limits.{least, mostThreads, mostNumbers, mostBlocks, mostDistance, within, inLimits}
 use Rattle.meaning.specs.Store.{Store, idle}
-use Rattle.meaning.specs.Holding.{free, heldBy, naming, named}
+use Rattle.meaning.specs.Holding.{free, heldBy, mark, held, admits, proper, naming, named}
 use Rattle.meaning.specs.Programs.{WRITE, LEVEL, lastLine}
-use Rattle.meaning.specs.Step.{become, put, apply}
+use Rattle.meaning.specs.Step.{become, put, came, apply}
 use Rattle.meaning.specs.Demands.{kept}
 use Rattle.meaning.proofs.Base.Words.{same, either-way, every-at, and-left, and-right, or-way, within-true, by-other, none-held, free-held, held-is, held-once, naming-named, upd-other, upd-each}
-use Rattle.meaning.proofs.Invariant.{takesH, takesN, takesLock, takes, gives-up, holdsH, holdsN, ownsHeaders, ownsP, ownsQ, n-unmapped, n-on-p, n-on-q, p-free, q-free, p-headed, q-headed, h-heads-p, chosen-now, c-of-p, q-has-c, c-of-n, If, ownsBlock, leadsAstray, Holds, Facts, Stands, Becomes, Puts, Passes, GuardsMap, GuardsHeader, GuardsContent, GuardsWear, Guards, Agrees, Back, Astray, Inv}
+use Rattle.meaning.proofs.Base.Sets.{kind-same, joins-other, quits-other, writer-alone, joins-proper, quits-proper}
+use Rattle.meaning.proofs.Invariant.{takesH, takesN, kind, takesLock, takes, gives-up, Joins, leaves-all, joins, quits, holdsH, holdsN, holdsLock, ownsHeaders, ownsP, ownsQ, n-unmapped, n-on-p, n-on-q, p-free, q-free, p-headed, q-headed, h-heads-p, chosen-now, c-of-p, q-has-c, c-of-n, If, ownsBlock, leadsAstray, Holds, Facts, Stands, Becomes, Puts, Passes, GuardsMap, GuardsHeader, GuardsContent, GuardsWear, Guards, Agrees, Back, Astray, Inv}
 use Rattle.meaning.proofs.Manager.View.{status, leaves, promised}
 
 -- ---- a rule of the table, tested at every line
@@ -55,6 +59,13 @@ pub up : (a b : Thread → Bool) → implies a b ≡ true → (r : Thread) → S
     a (standing (r .op) (r .line)) ≡ true → b (standing (r .op) (r .line)) ≡ true
 up a b all r st x = rw x at (everywhere (λ op line. not (a (standing op line)) || b (standing op line)) all r st)
 
+-- there are at most 16 threads
+pub few-threads : (t n p d : ℕ) → inLimits t n p d ≡ true → t ≤ mostThreads
+few-threads t n p d l =
+    let three = and-left _ (within least mostDistance d) l in
+    let two = and-left (within least mostThreads t && within least mostNumbers n) (within (n + 1) mostBlocks p) three in
+    within-true least mostThreads t (and-left (within least mostThreads t) _ two) .1
+
 -- ---- words and tables that another thread keeps
 
 passes-other : {about : Type 0} (t v w w′ : ℕ) → (t ≡ v → ⊥) → Passes about t w w′ → heldBy v w′ ≡ heldBy v w
@@ -66,11 +77,33 @@ pub word-kept : (about : Type 0) (t v : ℕ) → (t ≡ v → ⊥) → (c : Word
 word-kept about t v apart Stay w x = refl
 word-kept about t v apart (Become w′) w x = passes-other t v w w′ apart x
 
-pub entry-kept : (about : ℕ → Type 0) (t v : ℕ) → (t ≡ v → ⊥) → (c : Update) (f : ℕ → ℕ) →
-    Puts c (λ k. Passes (about k) t (f k)) → (k : ℕ) → heldBy v (put c f k) ≡ heldBy v (f k)
-entry-kept about t v apart Keep f x k = refl
-entry-kept about t v apart (Put i w) f x k =
-    upd-each (λ k y. heldBy v y ≡ heldBy v (f k)) f i w (passes-other t v (f i) w apart x) (λ k _. refl) k
+-- what t's coming and going makes of a word of locks or owners
+pub data Became (t w w′ : ℕ) : Type 0 where
+  stayed : w′ ≡ w → Became t w w′
+  joined : (κ : Kind) → t < mostThreads → admits κ t w ≡ true → w′ ≡ w + mark κ t → Became t w w′
+  left : (κ : Kind) → held κ t w ≡ true → w′ ≡ w - mark κ t → Became t w w′
+
+pub entry-became : (about : Kind → ℕ → Type 0) (t : ℕ) (c : Pass) (f : ℕ → ℕ) → Joins about t f c → (k : ℕ) → Became t (f k) (put (came f c) f k)
+entry-became about t c f leaves-all k = stayed refl
+entry-became about t c f (joins κ i b a _) k = upd-each (λ k w. Became t (f k) w) f i (f i + mark κ t) (joined κ b a refl) (λ k _. stayed refl) k
+entry-became about t c f (quits κ i h) k = upd-each (λ k w. Became t (f k) w) f i (f i - mark κ t) (left κ h refl) (λ k _. stayed refl) k
+
+-- it leaves others what they have
+became-kept : (t v w w′ : ℕ) → (t ≡ v → ⊥) → Became t w w′ → (κ : Kind) → held κ v w′ ≡ held κ v w
+became-kept t v w w′ apart (stayed e) κ = ap (held κ v) e
+became-kept t v w w′ apart (joined κ′ b a e) κ = ap (held κ v) e ∙ joins-other κ′ κ t v w b apart a
+became-kept t v w w′ apart (left κ′ h e) κ = ap (held κ v) e ∙ quits-other κ′ κ t v w apart h
+
+pub entry-kept : (about : Kind → ℕ → Type 0) (t v : ℕ) → (t ≡ v → ⊥) → (c : Pass) (f : ℕ → ℕ) → Joins about t f c → (κ : Kind) (k : ℕ) →
+    held κ v (put (came f c) f k) ≡ held κ v (f k)
+entry-kept about t v apart c f x κ k = became-kept t v (f k) (put (came f c) f k) apart (entry-became about t c f x k) κ
+
+-- and the word proper
+became-proper : (t threads : ℕ) → t < threads → threads ≤ mostThreads → (w w′ : ℕ) → Became t w w′ → proper threads w ≡ true →
+    proper threads w′ ≡ true
+became-proper t threads below few w w′ (stayed e) is = rw e is
+became-proper t threads below few w w′ (joined κ b a e) is = rw e (joins-proper threads few w is κ t below a)
+became-proper t threads below few w w′ (left κ h e) is = rw e (quits-proper threads few w is κ t h)
 
 -- an entry whose guard its writer can't have stays as it was
 pub put-kept : (c : Update) (f : ℕ → ℕ) (guard : ℕ → ℕ → Type 0) → Puts c guard → (k : ℕ) →
@@ -87,17 +120,20 @@ where-up false A f = tt
 abbrev pub reads-map : Thread → Bool
 reads-map r = holdsN r || ownsHeaders r
 
-pub p-owned : (r : Thread) → ownsP r ≡ true → ownsBlock r (r .p) ≡ true
-p-owned r x = rw (x, same (r .p)) (or-true (ownsQ r && eqb (r .q) (r .p)))
+pub n-locked : (r : Thread) → holdsN r ≡ true → holdsLock (kind r) r (r .n) ≡ true
+n-locked r x = rw (x, kind-same (kind r), same (r .n))
 
-pub q-owned : (r : Thread) → ownsQ r ≡ true → ownsBlock r (r .q) ≡ true
-q-owned r x = rw (x, same (r .q))
+pub p-owned : (r : Thread) → ownsP r ≡ true → ownsBlock (kind r) r (r .p) ≡ true
+p-owned r x = rw (x, kind-same (kind r), same (r .p)) (or-true (ownsQ r && true && eqb (r .q) (r .p)))
+
+pub q-owned : (r : Thread) → ownsQ r ≡ true → ownsBlock (kind r) r (r .q) ≡ true
+q-owned r x = rw (x, kind-same (kind r), same (r .q))
 
 -- ---- a step of t, seen by another thread v
 
--- whether a number is mapped and what its block holds stays as it is where t doesn't hold the number's lock
+-- whether a number is mapped and what its block holds stays as it is where t doesn't write the number's lock
 pub unheld-status : (s : Store) (t : ℕ) (r : Thread) (e : Effect) → Guards s t r e → (r′ : Thread) (k : ℕ) →
-    (heldBy t (s .locks k) ≡ true → ⊥) → status (apply s t r′ e) k ≡ status s k
+    (held Writer t (s .locks k) ≡ true → ⊥) → status (apply s t r′ e) k ≡ status s k
 unheld-status s t r e G r′ k lacks =
     rw (put-kept (e .map) (s .map) (λ k w. GuardsMap s t k) (G .map) k (λ w g. lacks (g .locks)))
     (either-way (free (s .map k)) (λ f. rw f)
@@ -108,25 +144,24 @@ unheld-status s t r e G r′ k lacks =
     )))
 
 pub unheld-kept : (s : Store) (t : ℕ) (r : Thread) (e : Effect) → Guards s t r e → (r′ : Thread) (k : ℕ) →
-    (heldBy t (s .locks k) ≡ true → ⊥) → kept (apply s t r′ e) k ≡ kept s k
+    (held Writer t (s .locks k) ≡ true → ⊥) → kept (apply s t r′ e) k ≡ kept s k
 unheld-kept s t r e G r′ k lacks = ap (λ x. x .content) (unheld-status s t r e G r′ k lacks)
 
 module _ (s : Store) (I : Inv s) (t : ℕ) (r : Thread) (e : Effect) (G : Guards s t r e) (v : ℕ) (apart : t ≡ v → ⊥) where
-  -- t has no lock, owner or block that v has
+  -- t doesn't have what v has, nor does it write there
   lock-lacks : holdsH (s .thread v) ≡ true → heldBy t (s .lock) ≡ true → ⊥
   lock-lacks x h = apart (held-once t v (s .lock) h (I .holds v .lock ∙ x))
 
   owner-lacks : ownsHeaders (s .thread v) ≡ true → heldBy t (s .owner) ≡ true → ⊥
   owner-lacks x h = apart (held-once t v (s .owner) h (I .holds v .owner ∙ x))
 
-  locks-lacks : holdsN (s .thread v) ≡ true → heldBy t (s .locks (s .thread v .n)) ≡ true → ⊥
+  locks-lacks : holdsN (s .thread v) ≡ true → held Writer t (s .locks (s .thread v .n)) ≡ true → ⊥
   locks-lacks x h =
-      let k = s .thread v .n in
-      let mine : heldBy v (s .locks k) ≡ true = I .holds v .locks k ∙ rw (x, same k) in
-      apart (held-once t v (s .locks k) h mine)
+      let r = s .thread v in
+      apart (writer-alone (kind r) t v (s .locks (r .n)) h (I .holds v .locks (kind r) (r .n) ∙ n-locked r x))
 
-  own-lacks : (m : ℕ) → ownsBlock (s .thread v) m ≡ true → heldBy t (s .own m) ≡ true → ⊥
-  own-lacks m x h = apart (held-once t v (s .own m) h (I .holds v .own m ∙ x))
+  own-lacks : (m : ℕ) → ownsBlock (kind (s .thread v)) (s .thread v) m ≡ true → held Writer t (s .own m) ≡ true → ⊥
+  own-lacks m x h = let κ = kind (s .thread v) in apart (writer-alone κ t v (s .own m) h (I .holds v .own κ m ∙ x))
 
   -- so what v knows stays
   pub map-kept : reads-map (s .thread v) ≡ true → put (e .map) (s .map) (s .thread v .n) ≡ s .map (s .thread v .n)
@@ -143,7 +178,7 @@ module _ (s : Store) (I : Inv s) (t : ℕ) (r : Thread) (e : Effect) (G : Guards
   wear-kept x =
       fun-ext (λ m. put-kept (e .wear) (s .wear) (λ m w. GuardsWear s t m) (G .wear) m (λ w g. lock-lacks x (g .lock)))
 
-  pub content-kept : (m : ℕ) → ownsBlock (s .thread v) m ≡ true → put (e .content) (s .content) m ≡ s .content m
+  pub content-kept : (m : ℕ) → ownsBlock (kind (s .thread v)) (s .thread v) m ≡ true → put (e .content) (s .content) m ≡ s .content m
   content-kept m x =
       put-kept (e .content) (s .content) (λ m w. GuardsContent s t m) (G .content) m (λ w g. own-lacks m x (g .own))
 
@@ -155,8 +190,9 @@ module _ (s : Store) (I : Inv s) (t : ℕ) (r : Thread) (e : Effect) (G : Guards
       record {
         lock = word-kept (takesH r ≡ true) t v apart (e .lock) (s .lock) (G .lock) ∙ I .holds v .lock;
         owner = word-kept Unit t v apart (e .owner) (s .owner) (G .owner) ∙ I .holds v .owner;
-        locks = λ k. entry-kept (λ k. takesLock r k ≡ true) t v apart (e .locks) (s .locks) (G .locks) k ∙ I .holds v .locks k;
-        own = λ m. entry-kept (λ m. Unit) t v apart (e .own) (s .own) (G .own) m ∙ I .holds v .own m;
+        locks =
+            λ κ k. entry-kept (λ κ k. takesLock κ r k ≡ true) t v apart (e .locks) (s .locks) (G .locks) κ k ∙ I .holds v .locks κ k;
+        own = λ κ m. entry-kept (λ κ m. Unit) t v apart (e .own) (s .own) (G .own) κ m ∙ I .holds v .own κ m;
       }
 
   facts-kept : (r′ : Thread) → Facts (apply s t r′ e) (s .thread v)
@@ -242,6 +278,7 @@ module _ (s : Store) (I : Inv s) (t : ℕ) (r′ : Thread) (e : Effect) (M : Mov
 
   pub moves-inv : t < s .threads → Inv (apply s t r′ e)
   moves-inv below =
+      let few = few-threads (s .threads) (s .numbers) (s .blocks) (s .distance) (I .limits) in
       record {
         limits = I .limits;
         stands = upd-each (λ v r. Stands r) (s .thread) t r′ (M .stands) (λ v _. I .stands v);
@@ -250,6 +287,12 @@ module _ (s : Store) (I : Inv s) (t : ℕ) (r′ : Thread) (e : Effect) (M : Mov
         holds =
             upd-each (λ v r. Holds (apply s t r′ e) v r) (s .thread) t r′ (M .holds)
             (λ v apart. holds-kept s I t (s .thread t) e (M .guards) v apart r′);
+        locks =
+            λ k. became-proper t (s .threads) below few (s .locks k) _
+            (entry-became (λ κ k. takesLock κ (s .thread t) k ≡ true) t (e .locks) (s .locks) (M .guards .locks) k) (I .locks k);
+        own =
+            λ m. became-proper t (s .threads) below few (s .own m) _
+            (entry-became (λ κ m. Unit) t (e .own) (s .own) (M .guards .own) m) (I .own m);
         facts =
             upd-each (λ v r. Facts (apply s t r′ e) r) (s .thread) t r′ (M .facts)
             (λ v apart. facts-kept s I t (s .thread t) e (M .guards) v apart r′);

@@ -4,18 +4,21 @@
 use mathlib.Core.Path.{_≡_, refl, sym, _∙_, subst}
 use mathlib.Core.Bool.{Bool, true, false, _&&_, _||_, and-true}
 use mathlib.Core.Logic.{inl, inr}
-use Prim.Native.Nat.{ℕ, _+_, _<_}
+use Prim.Native.Nat.{ℕ, _+_, _<_, _≤_}
 use native.Mathlib.Omega.{arith}
 use lib.Dec.{eqb}
 use borrow.Author.Tests.{eqb-true}
+use Rattle.meaning.specs.declared.Kind.{Kind}
+use Rattle.meaning.specs.declared.Kind.the-variants.{Reader, Writer}
 use Rattle.meaning.specs.declared.Found.the-variants.{At}
 use Rattle.meaning.specs.Limits.{least, mostThreads, mostNumbers, mostBlocks, mostDistance, within, inLimits}
 use Rattle.meaning.specs.Store.{Store}
-use Rattle.meaning.specs.Holding.{none, free, heldBy, naming}
+use Rattle.meaning.specs.Holding.{none, free, heldBy, held, admits, naming}
 use Rattle.meaning.specs.Choosing.{lowestFree, toBlock}
 use Rattle.meaning.proofs.Base.Words.{same, clash, and-left, and-right, or-way, within-true, free-held, held-once, alone-free, free-none, naming-once, naming-not-none}
-use Rattle.meaning.proofs.Invariant.{holdsH, holdsN, ownsHeaders, ownsP, ownsQ, n-on-p, n-on-q, p-free, q-free, p-headed, q-headed, p-astray, q-astray, If, leadsAstray, GuardsContent, Back, Astray, Inv}
-use Rattle.meaning.proofs.Invariant.Keeping.{up}
+use Rattle.meaning.proofs.Base.Sets.{sameKind, bothRead, writer-alone, admits-unless}
+use Rattle.meaning.proofs.Invariant.{kind, holdsH, holdsN, ownsHeaders, ownsP, ownsQ, n-on-p, n-on-q, p-free, q-free, p-headed, q-headed, p-astray, q-astray, If, leadsAstray, GuardsContent, Back, Astray, Inv}
+use Rattle.meaning.proofs.Invariant.Keeping.{few-threads, up}
 use Rattle.meaning.proofs.Base.Searches.{crowded, finds, finds-nobody, Lowest, lowest-finds, To, to-finds}
 
 -- there are more blocks than numbers, and some number
@@ -33,10 +36,10 @@ pub fact : (b : Bool) (A : Type 0) → b ≡ true → If b A → A
 fact true A x f = f
 fact false A x f = clash x refl
 
--- why v may own block m: its header is free and v owns the headers, or it names a number whose lock v holds
-data Owned (s : Store) (v m : ℕ) : Type 0 where
-  as-free : s .header m ≡ none → heldBy v (s .owner) ≡ true → Owned s v m
-  as-headed : (k : ℕ) → s .header m ≡ naming k → heldBy v (s .locks k) ≡ true → Owned s v m
+-- why v may own block m as κ: its header is free and v owns the headers, or it names a number whose lock v holds as κ
+data Owned (s : Store) (κ : Kind) (v m : ℕ) : Type 0 where
+  as-free : s .header m ≡ none → heldBy v (s .owner) ≡ true → Owned s κ v m
+  as-headed : (k : ℕ) → s .header m ≡ naming k → held κ v (s .locks k) ≡ true → Owned s κ v m
 
 module _ (s : Store) (I : Inv s) where
   pub numbers-blocks : (s .numbers < s .blocks) × (0 < s .numbers)
@@ -45,52 +48,75 @@ module _ (s : Store) (I : Inv s) where
   -- ---- blocks
 
   -- through register p or q: f, d and o are the flags for "its header is free", "its header names n" and "n is mapped to it"
-  owned-through : (v n m : ℕ) (f d o : Bool) → If f (s .header m ≡ none) → If d (s .header m ≡ naming n) →
-      If o (s .map n ≡ naming m) → (f && heldBy v (s .owner) || (d || o) && heldBy v (s .locks n)) ≡ true → Owned s v m
-  owned-through v n m f d o empty headed on x =
+  owned-through : (κ : Kind) (v n m : ℕ) (f d o : Bool) → If f (s .header m ≡ none) → If d (s .header m ≡ naming n) →
+      If o (s .map n ≡ naming m) → (f && heldBy v (s .owner) || (d || o) && held κ v (s .locks n)) ≡ true → Owned s κ v m
+  owned-through κ v n m f d o empty headed on x =
       or-way (f && heldBy v (s .owner)) _ x (λ y. as-free (fact f _ (and-left f _ y) empty) (and-right f _ y))
       (λ y. as-headed n
       (or-way d o (and-left (d || o) _ y) (λ z. fact d _ z headed) (λ z. I .agrees .headed n m (fact o _ z on)))
       (and-right (d || o) _ y))
 
-  owned : (v m : ℕ) → heldBy v (s .own m) ≡ true → Owned s v m
-  owned v m x =
+  owned : (κ : Kind) (v m : ℕ) → held κ v (s .own m) ≡ true → Owned s κ v m
+  owned κ v m x =
       let r = s .thread v in
       let f = I .facts v in
-      let mine : heldBy v (s .locks (r .n)) ≡ holdsN r = I .holds v .locks (r .n) ∙ rw (same (r .n)) (and-true (holdsN r)) in
-      or-way (ownsQ r && eqb (r .q) m) (ownsP r && eqb (r .p) m) (sym (I .holds v .own m) ∙ x)
-      (λ y. subst (Owned s v) (eqb-true (r .q) m (and-right (ownsQ r) _ y))
-      (owned-through v (r .n) (r .q) (q-free r) (q-headed r) (n-on-q r) (f .free-q) (f .headed-q) (f .on-q)
+      let locks : sameKind κ (kind r) ≡ true → held κ v (s .locks (r .n)) ≡ holdsN r =
+      λ k. I .holds v .locks κ (r .n) ∙ rw (k, same (r .n), and-true (holdsN r)) (and-true (holdsN r)) in
+      or-way (ownsQ r && sameKind κ (kind r) && eqb (r .q) m) (ownsP r && sameKind κ (kind r) && eqb (r .p) m)
+      (sym (I .holds v .own κ m) ∙ x)
+      (λ y.
+      let own = and-left (ownsQ r && sameKind κ (kind r)) _ y in
+      let mine = locks (and-right (ownsQ r) _ own) in
+      subst (Owned s κ v) (eqb-true (r .q) m (and-right (ownsQ r && sameKind κ (kind r)) _ y))
+      (owned-through κ v (r .n) (r .q) (q-free r) (q-headed r) (n-on-q r) (f .free-q) (f .headed-q) (f .on-q)
       (rw (I .holds v .owner, mine)
       (up ownsQ (λ r. q-free r && ownsHeaders r || (q-headed r || n-on-q r) && holdsN r) refl r (I .stands v)
-      (and-left (ownsQ r) _ y)))))
-      (λ y. subst (Owned s v) (eqb-true (r .p) m (and-right (ownsP r) _ y))
-      (owned-through v (r .n) (r .p) (p-free r) (p-headed r) (n-on-p r) (f .free-p) (f .headed-p) (f .on-p)
+      (and-left (ownsQ r) _ own)))))
+      (λ y.
+      let own = and-left (ownsP r && sameKind κ (kind r)) _ y in
+      let mine = locks (and-right (ownsP r) _ own) in
+      subst (Owned s κ v) (eqb-true (r .p) m (and-right (ownsP r && sameKind κ (kind r)) _ y))
+      (owned-through κ v (r .n) (r .p) (p-free r) (p-headed r) (n-on-p r) (f .free-p) (f .headed-p) (f .on-p)
       (rw (I .holds v .owner, mine)
       (up ownsP (λ r. p-free r && ownsHeaders r || (p-headed r || n-on-p r) && holdsN r) refl r (I .stands v)
-      (and-left (ownsP r) _ y)))))
+      (and-left (ownsP r) _ own)))))
 
-  -- a block that t doesn't own is free where t has the lock of the number mapped to it
-  pub mapped-block-free : (t n m : ℕ) → s .map n ≡ naming m → heldBy t (s .locks n) ≡ true → heldBy t (s .own m) ≡ false →
-      free (s .own m) ≡ true
-  mapped-block-free t n m on lock own = alone-free t (s .own m) own (λ v x. alone v (owned v m x))
+  -- ---- who may own
+
+  pub few : s .threads ≤ mostThreads
+  few = few-threads (s .threads) (s .numbers) (s .blocks) (s .distance) (I .limits)
+
+  -- t, which doesn't own block m, may own it where it has the lock of the number mapped to it, as the same kind
+  pub mapped-block-admits : (κ : Kind) (t n m : ℕ) → s .map n ≡ naming m → held κ t (s .locks n) ≡ true →
+      ((κ′ : Kind) → held κ′ t (s .own m) ≡ false) → admits κ t (s .own m) ≡ true
+  mapped-block-admits κ t n m on lock own =
+      admits-unless (s .threads) few (s .own m) (I .own m) κ t (own Reader) (λ κ′ v x. beside κ κ′ v lock x (owned κ′ v m x))
     where
-      alone : (v : ℕ) → Owned s v m → t ≡ v
-      alone v (as-free f _) = naming-not-none n (s .header m) (I .agrees .headed n m on) f
-      alone v (as-headed k h l) =
-          held-once t v (s .locks n) lock (rw (naming-once n k (sym (I .agrees .headed n m on) ∙ h)) l)
+      -- v has the same lock
+      same-lock : (κ′ : Kind) (v : ℕ) → Owned s κ′ v m → held κ′ v (s .locks n) ≡ true
+      same-lock κ′ v (as-free f _) = naming-not-none n (s .header m) (I .agrees .headed n m on) f
+      same-lock κ′ v (as-headed k h l) = rw (naming-once n k (sym (I .agrees .headed n m on) ∙ h)) l
+
+      not-me : {A : Type 0} (κ′ : Kind) (v : ℕ) → held κ′ v (s .own m) ≡ true → t ≡ v → A
+      not-me κ′ v x e = clash x (rw (sym e) (own κ′))
+
+      beside : (κ κ′ : Kind) (v : ℕ) → held κ t (s .locks n) ≡ true → held κ′ v (s .own m) ≡ true → Owned s κ′ v m → bothRead κ κ′ ≡ true
+      beside Reader Reader v lock x o = refl
+      beside Reader Writer v lock x o = not-me Writer v x (sym (writer-alone Reader v t (s .locks n) (same-lock Writer v o) lock))
+      beside Writer κ′ v lock x o = not-me κ′ v x (writer-alone κ′ t v (s .locks n) lock (same-lock κ′ v o))
 
   -- and where its header is free and t owns the headers
-  pub free-block-free : (t m : ℕ) → s .header m ≡ none → heldBy t (s .owner) ≡ true → heldBy t (s .own m) ≡ false →
-      free (s .own m) ≡ true
-  free-block-free t m empty owner own = alone-free t (s .own m) own (λ v x. alone v (owned v m x))
+  pub free-block-admits : (κ : Kind) (t m : ℕ) → s .header m ≡ none → heldBy t (s .owner) ≡ true →
+      ((κ′ : Kind) → held κ′ t (s .own m) ≡ false) → admits κ t (s .own m) ≡ true
+  free-block-admits κ t m empty owner own =
+      admits-unless (s .threads) few (s .own m) (I .own m) κ t (own Reader) (λ κ′ v x. nobody κ′ v x (owned κ′ v m x))
     where
-      alone : (v : ℕ) → Owned s v m → t ≡ v
-      alone v (as-free _ o) = held-once t v (s .owner) owner o
-      alone v (as-headed k h _) = naming-not-none k (s .header m) h empty
+      nobody : (κ′ : Kind) (v : ℕ) → held κ′ v (s .own m) ≡ true → Owned s κ′ v m → bothRead κ κ′ ≡ true
+      nobody κ′ v x (as-free _ o) = clash x (rw (sym (held-once t v (s .owner) owner o)) (own κ′))
+      nobody κ′ v x (as-headed k h _) = naming-not-none k (s .header m) h empty
 
-  -- who owns a block that is headed by a number whose lock it holds may write its content
-  pub content-guarded : (t n m : ℕ) → s .header m ≡ naming n → heldBy t (s .locks n) ≡ true → heldBy t (s .own m) ≡ true →
+  -- who writes a block that is headed by a number whose lock it writes may write its content
+  pub content-guarded : (t n m : ℕ) → s .header m ≡ naming n → held Writer t (s .locks n) ≡ true → held Writer t (s .own m) ≡ true →
       GuardsContent s t m
   content-guarded t n m headed lock own =
       record {

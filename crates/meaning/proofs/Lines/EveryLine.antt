@@ -6,9 +6,9 @@ use mathlib.Core.Logic.{inl, inr}
 use Prim.Native.Nat.{ℕ, _<_}
 use native.Mathlib.Omega.{arith}
 use lib.Dec.{eqb, ltb}
-use borrow.Author.Tests.{eqb-true, ltb-true}
+use borrow.Author.Tests.{eqb-true, ltb-true, ltb-false}
 use Rattle.meaning.specs.declared.Thread.{Thread}
-use Rattle.meaning.specs.Limits.{within}
+use Rattle.meaning.specs.Limits.{mostThreads, within}
 use Rattle.meaning.specs.Store.{Store, idle}
 use Rattle.meaning.specs.Programs.{WRITE, LEVEL, lastLine}
 use Rattle.meaning.specs.Step.{nothing, verdict}
@@ -16,7 +16,7 @@ use Rattle.meaning.specs.Call.{isIdle, begun, storedN}
 use Rattle.meaning.proofs.Base.Words.{either-way, clash, and-left, and-right, within-true}
 use Rattle.meaning.proofs.Invariant.{Holds, onLine, Stands, Inv}
 use Rattle.meaning.proofs.Invariant.Keeping.{Moves}
-use Rattle.meaning.proofs.Invariant.Sharing.{numbers-blocks}
+use Rattle.meaning.proofs.Invariant.Sharing.{numbers-blocks, few}
 use Rattle.meaning.proofs.Lines.{Fine, Line, From, _▸_, from-at, keeping}
 use Rattle.meaning.proofs.Lines.Write.{write-lines}
 use Rattle.meaning.proofs.Lines.Read.{read-lines}
@@ -41,9 +41,15 @@ open-line r (inl e) busy = clash refl (rw e at busy)
 open-line r (inr o) busy = o
 
 module _ (s : Store) (I : Inv s) (t : ℕ) where
+  pub open-below : isIdle (s .thread t) ≡ false → t < s .threads
+  open-below busy =
+      either-way (ltb t (s .threads)) (λ b. ltb-true t (s .threads) b)
+      (λ b. clash refl (rw (I .past t (ltb-false t (s .threads) b)) at busy))
+
   pub fine : isIdle (s .thread t) ≡ false → Fine s t (s .thread t) (verdict s t)
   fine busy =
       let r = s .thread t in
+      let below : t < mostThreads = omega (arith, open-below busy, few s I) in
       let o = open-line r (I .stands t) busy in
       let op = within-true WRITE LEVEL (r .op) (and-left _ (within 1 (lastLine (r .op)) (r .line)) o) in
       let line = within-true 1 (lastLine (r .op)) (r .line) (and-right (within WRITE LEVEL (r .op)) _ o) in
@@ -51,7 +57,7 @@ module _ (s : Store) (I : Inv s) (t : ℕ) where
       from-at (λ op. From (Line s t op) 1 (lastLine op)) LEVEL WRITE
       (write-lines s t ▸ read-lines s t ▸ unmap-lines s t ▸ level-lines s t ▸ tt) (r .op) (omega arith) (omega arith) in
       from-at (Line s t (r .op)) (lastLine (r .op)) 1 lines (r .line) (omega arith) (omega arith)
-      (r .n) (r .c) (r .p) (r .q) (r .h) (record { inv = I; is = refl; holds = I .holds t; facts = I .facts t })
+      (r .n) (r .c) (r .p) (r .q) (r .h) (record { inv = I; below = below; is = refl; holds = I .holds t; facts = I .facts t })
 
   -- ---- an idle thread begins any of the four operations
 

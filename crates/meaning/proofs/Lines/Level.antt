@@ -1,20 +1,22 @@
 -- The lines of level, one after the other: each has what it needs, and shows what the table says of the thread at its next line.
 -- Assumes nothing.
 use mathlib.Core.Path.{_≡_, refl, sym, _∙_}
-use mathlib.Core.Bool.{false, _||_, or-false}
+use mathlib.Core.Bool.{false, _||_, or-false, and-false}
 use Prim.Native.Nat.{ℕ, _<_}
 use lib.Dec.{eqb}
 use borrow.Author.Tests.{eqb-true, eq-eqb, ne-eqb}
+use Rattle.meaning.specs.declared.Kind.the-variants.{Writer}
 use Rattle.meaning.specs.Store.{Store}
-use Rattle.meaning.specs.Holding.{none, free, naming, named}
+use Rattle.meaning.specs.Holding.{none, free, naming, named, admits}
 use Rattle.meaning.specs.Choosing.{toBlock}
 use Rattle.meaning.specs.declared.Found.the-variants.{At}
 use Rattle.meaning.specs.Programs.{LEVEL, actAt}
 use Rattle.meaning.specs.Step.{onContent, onMap, perform, apply}
 use Rattle.meaning.proofs.Base.Words.{either-way, same, naming-named, named-below, naming-not-free, naming-once, upd-same, upd-other}
-use Rattle.meaning.proofs.Invariant.Sharing.{owner-free, mapped-block-free, free-block-free, settled-owner, numbers-blocks, to-found, content-guarded}
+use Rattle.meaning.proofs.Base.Sets.{sameKind}
+use Rattle.meaning.proofs.Invariant.Sharing.{owner-free, mapped-block-admits, free-block-admits, settled-owner, numbers-blocks, to-found, content-guarded}
 use Rattle.meaning.proofs.Base.Searches.{from-below}
-use Rattle.meaning.proofs.Lines.{for-H, for-N, Fine, at, Line, From, _▸_, n-held, p-held, q-held, second-taken, second-given, mapped-headed, mapped-freed, headed-apart, headed-agrees, freed-agrees, moved-agrees, moved-mapped, status-moved, facts-idle, keeping}
+use Rattle.meaning.proofs.Lines.{for-H, for-N, Fine, at, Line, From, _▸_, n-held, p-held, q-held, second-taken, second-given, mapped-headed, mapped-freed, headed-apart, headed-agrees, freed-agrees, moved-agrees, moved-mapped, status-moved, facts-idle, comes, parts, entry-taken, entry-given, keeping}
 
 module _ (s : Store) (t : ℕ) where
   L1 : Line s t LEVEL 1
@@ -52,12 +54,13 @@ module _ (s : Store) (t : ℕ) where
 
   L6 : Line s t LEVEL 6
   L6 n c p q h H =
-      either-way (free (s .locks n)) (λ f. rw f (search (keeping, H .holds .locks))) (λ f. rw f (for-N refl f))
+      either-way (admits Writer t (s .locks n))
+      (λ f. rw f (search (keeping, comes Writer, entry-taken Writer t (s .locks) n, H .holds .locks))) (λ f. rw f (for-N refl f))
 
   L7 : Line s t LEVEL 7
   L7 n c p q h H =
-      let f = mapped-block-free s (H .inv) t n p (H .facts .on-p) (n-held H refl) (H .holds .own p) in
-      rw f (search (keeping, H .holds .locks, H .holds .own))
+      let f = mapped-block-admits s (H .inv) Writer t n p (H .facts .on-p) (n-held H refl) (λ κ. H .holds .own κ p) in
+      rw f (search (keeping, comes Writer, entry-taken Writer t (s .own) p, H .holds .locks, H .holds .own))
 
   L8 : Line s t LEVEL 8
   L8 n c p q h H =
@@ -67,8 +70,9 @@ module _ (s : Store) (t : ℕ) where
   L9 : Line s t LEVEL 9
   L9 n c p q h H =
       let apart = headed-apart s n p q (H .facts .headed-p) (H .facts .free-q) in
-      let f = free-block-free s (H .inv) t q (H .facts .free-q) (H .holds .owner) (H .holds .own q ∙ ne-eqb p q apart) in
-      rw f (search (keeping, second-taken, H .holds .locks, H .holds .own))
+      let f = free-block-admits s (H .inv) Writer t q (H .facts .free-q) (H .holds .owner)
+      (λ κ. H .holds .own κ q ∙ rw (ne-eqb p q apart) (and-false (sameKind κ Writer))) in
+      rw f (search (keeping, comes Writer, second-taken Writer t (s .own) q p, H .holds .locks, H .holds .own))
 
   L10 : Line s t LEVEL 10
   L10 n c p q h H =
@@ -115,17 +119,17 @@ module _ (s : Store) (t : ℕ) where
   L14 : Line s t LEVEL 14
   L14 n c p q h H =
       let own = q-held H refl in
-      rw own (search (keeping, second-given t (s .own) q p (H .facts .apart), H .holds .locks, H .holds .own))
+      rw own (search (keeping, parts Writer, second-given Writer t (s .own) q p own (H .facts .apart), H .holds .locks, H .holds .own))
 
   L15 : Line s t LEVEL 15
   L15 n c p q h H =
       let own = p-held H refl in
-      rw own (search (keeping, H .holds .locks, H .holds .own))
+      rw own (search (keeping, parts Writer, entry-given Writer t (s .own) p, H .holds .locks, H .holds .own))
 
   L16 : Line s t LEVEL 16
   L16 n c p q h H =
       let lock = n-held H refl in
-      rw lock (search (keeping, H .holds .locks, H .holds .own))
+      rw lock (search (keeping, parts Writer, entry-given Writer t (s .locks) n, H .holds .locks, H .holds .own))
 
   L17 : Line s t LEVEL 17
   L17 n c p q h H = rw (H .holds .owner) (search (keeping, H .holds .locks, H .holds .own))

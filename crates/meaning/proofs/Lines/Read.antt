@@ -3,19 +3,21 @@
 use mathlib.Core.Path.{_≡_, refl, sym, ap}
 use mathlib.Core.List.{[], _∷_}
 use Prim.Native.Nat.{ℕ}
+use Rattle.meaning.specs.declared.Kind.the-variants.{Reader}
 use Rattle.meaning.specs.Store.{Store}
-use Rattle.meaning.specs.Holding.{free}
+use Rattle.meaning.specs.Holding.{free, admits}
 use Rattle.meaning.specs.Programs.{READ}
 use Rattle.meaning.specs.Demands.{kept}
 use Rattle.meaning.proofs.Base.Words.{either-way, naming-not-free}
 use Rattle.meaning.proofs.Manager.View.{due}
-use Rattle.meaning.proofs.Invariant.Sharing.{mapped-block-free, numbers-blocks}
-use Rattle.meaning.proofs.Lines.{at, for-N, Line, From, _▸_, n-held, p-held, looked-up, kept-on, facts-idle, keeping}
+use Rattle.meaning.proofs.Invariant.Sharing.{mapped-block-admits, numbers-blocks}
+use Rattle.meaning.proofs.Lines.{at, for-N, Line, From, _▸_, n-held, p-held, looked-up, kept-on, facts-idle, comes, parts, entry-taken, entry-given, keeping}
 
 module _ (s : Store) (t : ℕ) where
   R1 : Line s t READ 1
   R1 n c p q h H =
-      either-way (free (s .locks n)) (λ f. rw f (search (keeping, H .holds .locks))) (λ f. rw f (for-N refl f))
+      either-way (admits Reader t (s .locks n))
+      (λ f. rw f (search (keeping, comes Reader, entry-taken Reader t (s .locks) n, H .holds .locks))) (λ f. rw f (for-N refl f))
 
   R2 : Line s t READ 2
   R2 n c p q h H =
@@ -25,8 +27,8 @@ module _ (s : Store) (t : ℕ) where
 
   R3 : Line s t READ 3
   R3 n c p q h H =
-      let f = mapped-block-free s (H .inv) t n p (H .facts .on-p) (n-held H refl) (H .holds .own p) in
-      rw f (search (keeping, H .holds .locks, H .holds .own))
+      let f = mapped-block-admits s (H .inv) Reader t n p (H .facts .on-p) (n-held H refl) (λ κ. H .holds .own κ p) in
+      rw f (search (keeping, comes Reader, entry-taken Reader t (s .own) p, H .holds .locks, H .holds .own))
 
   R4 : Line s t READ 4
   R4 n c p q h H =
@@ -38,7 +40,7 @@ module _ (s : Store) (t : ℕ) where
   R5 : Line s t READ 5
   R5 n c p q h H =
       let own = p-held H refl in
-      rw own (search (keeping, H .holds .locks, H .holds .own))
+      rw own (search (keeping, parts Reader, entry-given Reader t (s .own) p, H .holds .locks, H .holds .own))
 
   R6 : Line s t READ 6
   R6 n c p q h H =
@@ -46,7 +48,7 @@ module _ (s : Store) (t : ℕ) where
       let sizes = numbers-blocks s (H .inv) in
       let owed : due s (at READ 6 n c p q h) ≡ record { op = READ; value = c } ∷ [] =
       ap (λ x. record { op = READ; value = x } ∷ []) (sym (H .facts .seen)) in
-      rw lock (search (keeping, facts-idle, H .holds .locks, H .holds .own))
+      rw lock (search (keeping, parts Reader, entry-given Reader t (s .locks) n, facts-idle, H .holds .locks, H .holds .own))
 
   pub read-lines : From (Line s t READ) 1 6
   read-lines = R1 ▸ R2 ▸ R3 ▸ R4 ▸ R5 ▸ R6 ▸ tt

@@ -3,13 +3,14 @@
 use mathlib.Core.Path.{_≡_, refl}
 use mathlib.Core.Bool.{false}
 use Prim.Native.Nat.{ℕ}
+use Rattle.meaning.specs.declared.Kind.the-variants.{Writer}
 use Rattle.meaning.specs.Store.{Store}
-use Rattle.meaning.specs.Holding.{none, free}
+use Rattle.meaning.specs.Holding.{none, free, admits}
 use Rattle.meaning.specs.Programs.{UNMAP}
 use Rattle.meaning.proofs.Base.Words.{either-way, free-none, naming-not-none, upd-same}
 use Rattle.meaning.proofs.Manager.View.{status}
-use Rattle.meaning.proofs.Invariant.Sharing.{owner-free, mapped-block-free, numbers-blocks}
-use Rattle.meaning.proofs.Lines.{for-H, for-N, Line, From, _▸_, n-held, p-held, mapped-freed, freed-agrees, unmapped-agrees, unmapped-mapped, looked-up, facts-idle, keeping}
+use Rattle.meaning.proofs.Invariant.Sharing.{owner-free, mapped-block-admits, numbers-blocks}
+use Rattle.meaning.proofs.Lines.{for-H, for-N, Line, From, _▸_, n-held, p-held, mapped-freed, freed-agrees, unmapped-agrees, unmapped-mapped, looked-up, facts-idle, comes, parts, entry-taken, entry-given, keeping}
 
 module _ (s : Store) (t : ℕ) where
   U1 : Line s t UNMAP 1
@@ -18,7 +19,8 @@ module _ (s : Store) (t : ℕ) where
 
   U2 : Line s t UNMAP 2
   U2 n c p q h H =
-      either-way (free (s .locks n)) (λ f. rw f (search (keeping, H .holds .locks))) (λ f. rw f (for-N refl f))
+      either-way (admits Writer t (s .locks n))
+      (λ f. rw f (search (keeping, comes Writer, entry-taken Writer t (s .locks) n, H .holds .locks))) (λ f. rw f (for-N refl f))
 
   U3 : Line s t UNMAP 3
   U3 n c p q h H =
@@ -33,8 +35,8 @@ module _ (s : Store) (t : ℕ) where
 
   U5 : Line s t UNMAP 5
   U5 n c p q h H =
-      let f = mapped-block-free s (H .inv) t n p (H .facts .on-p) (n-held H refl) (H .holds .own p) in
-      rw f (search (keeping, H .holds .locks, H .holds .own))
+      let f = mapped-block-admits s (H .inv) Writer t n p (H .facts .on-p) (n-held H refl) (λ κ. H .holds .own κ p) in
+      rw f (search (keeping, comes Writer, entry-taken Writer t (s .own) p, H .holds .locks, H .holds .own))
 
   U6 : Line s t UNMAP 6
   U6 n c p q h H =
@@ -57,7 +59,7 @@ module _ (s : Store) (t : ℕ) where
   U8 : Line s t UNMAP 8
   U8 n c p q h H =
       let own = p-held H refl in
-      rw own (search (keeping, H .holds .locks, H .holds .own))
+      rw own (search (keeping, parts Writer, entry-given Writer t (s .own) p, H .holds .locks, H .holds .own))
 
   U9 : Line s t UNMAP 9
   U9 n c p q h H = rw (H .holds .owner) (search (keeping, H .holds .locks, H .holds .own))
@@ -66,7 +68,7 @@ module _ (s : Store) (t : ℕ) where
   U10 n c p q h H =
       let lock = n-held H refl in
       let left : status s n ≡ record { mapped = false; content = 0 } = rw (H .facts .unmapped) in
-      rw lock (search (keeping, H .holds .locks, H .holds .own))
+      rw lock (search (keeping, parts Writer, entry-given Writer t (s .locks) n, H .holds .locks, H .holds .own))
 
   U11 : Line s t UNMAP 11
   U11 n c p q h H =

@@ -6,14 +6,15 @@ use Prim.Native.Nat.{ℕ}
 use native.Mathlib.Omega.{arith}
 use lib.Dec.{eqb}
 use borrow.Author.Tests.{eqb-true, lt-ltb}
+use Rattle.meaning.specs.declared.Kind.the-variants.{Writer}
 use Rattle.meaning.specs.Store.{Store}
-use Rattle.meaning.specs.Holding.{free, naming}
+use Rattle.meaning.specs.Holding.{free, naming, admits}
 use Rattle.meaning.specs.Choosing.{lowestFree}
 use Rattle.meaning.specs.Programs.{WRITE}
 use Rattle.meaning.specs.Step.{onContent, apply}
 use Rattle.meaning.proofs.Base.Words.{either-way, same, free-none, naming-not-free, naming-not-none, upd-same}
-use Rattle.meaning.proofs.Invariant.Sharing.{owner-free, mapped-block-free, free-block-free, numbers-blocks, lowest-free, content-guarded}
-use Rattle.meaning.proofs.Lines.{kept-on, status-on, at, for-H, for-N, Line, From, _▸_, n-held, p-held, mapped-headed, headed-agrees, moved-agrees, moved-mapped, looked-up, facts-idle, keeping}
+use Rattle.meaning.proofs.Invariant.Sharing.{owner-free, mapped-block-admits, free-block-admits, numbers-blocks, lowest-free, content-guarded}
+use Rattle.meaning.proofs.Lines.{kept-on, status-on, at, for-H, for-N, Line, From, _▸_, n-held, p-held, mapped-headed, headed-agrees, moved-agrees, moved-mapped, looked-up, facts-idle, comes, parts, entry-taken, entry-given, keeping}
 
 module _ (s : Store) (t : ℕ) where
   W1 : Line s t WRITE 1
@@ -22,7 +23,8 @@ module _ (s : Store) (t : ℕ) where
 
   W2 : Line s t WRITE 2
   W2 n c p q h H =
-      either-way (free (s .locks n)) (λ f. rw f (search (keeping, H .holds .locks))) (λ f. rw f (for-N refl f))
+      either-way (admits Writer t (s .locks n))
+      (λ f. rw f (search (keeping, comes Writer, entry-taken Writer t (s .locks) n, H .holds .locks))) (λ f. rw f (for-N refl f))
 
   W3 : Line s t WRITE 3
   W3 n c p q h H =
@@ -42,8 +44,8 @@ module _ (s : Store) (t : ℕ) where
 
   W6 : Line s t WRITE 6
   W6 n c p q h H =
-      let f = free-block-free s (H .inv) t p (H .facts .free-p) (H .holds .owner) (H .holds .own p) in
-      rw f (search (keeping, H .holds .locks, H .holds .own))
+      let f = free-block-admits s (H .inv) Writer t p (H .facts .free-p) (H .holds .owner) (λ κ. H .holds .own κ p) in
+      rw f (search (keeping, comes Writer, entry-taken Writer t (s .own) p, H .holds .locks, H .holds .own))
 
   W7 : Line s t WRITE 7
   W7 n c p q h H =
@@ -62,7 +64,7 @@ module _ (s : Store) (t : ℕ) where
   W9 : Line s t WRITE 9
   W9 n c p q h H =
       let own = p-held H refl in
-      rw own (search (keeping, H .holds .locks, H .holds .own))
+      rw own (search (keeping, parts Writer, entry-given Writer t (s .own) p, H .holds .locks, H .holds .own))
 
   W10 : Line s t WRITE 10
   W10 n c p q h H =
@@ -82,8 +84,8 @@ module _ (s : Store) (t : ℕ) where
 
   W13 : Line s t WRITE 13
   W13 n c p q h H =
-      let f = mapped-block-free s (H .inv) t n p (H .facts .on-p) (n-held H refl) (H .holds .own p) in
-      rw f (search (keeping, H .holds .locks, H .holds .own))
+      let f = mapped-block-admits s (H .inv) Writer t n p (H .facts .on-p) (n-held H refl) (λ κ. H .holds .own κ p) in
+      rw f (search (keeping, comes Writer, entry-taken Writer t (s .own) p, H .holds .locks, H .holds .own))
 
   W14 : Line s t WRITE 14
   W14 n c p q h H =
@@ -97,14 +99,14 @@ module _ (s : Store) (t : ℕ) where
   W15 : Line s t WRITE 15
   W15 n c p q h H =
       let own = p-held H refl in
-      rw own (search (keeping, H .holds .locks, H .holds .own))
+      rw own (search (keeping, parts Writer, entry-given Writer t (s .own) p, H .holds .locks, H .holds .own))
 
   W16 : Line s t WRITE 16
   W16 n c p q h H =
       let lock = n-held H refl in
       let sizes = numbers-blocks s (H .inv) in
       let left = status-on s n p c (H .facts .on-p) (sym (H .facts .seen)) in
-      rw lock (search (keeping, facts-idle, H .holds .locks, H .holds .own))
+      rw lock (search (keeping, parts Writer, entry-given Writer t (s .locks) n, facts-idle, H .holds .locks, H .holds .own))
 
   pub write-lines : From (Line s t WRITE) 1 16
   write-lines = W1 ▸ W2 ▸ W3 ▸ W4 ▸ W5 ▸ W6 ▸ W7 ▸ W8 ▸ W9 ▸ W10 ▸ W11 ▸ W12 ▸ W13 ▸ W14 ▸ W15 ▸ W16 ▸ tt

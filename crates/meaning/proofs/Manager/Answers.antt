@@ -10,22 +10,25 @@ use lib.Dec.{eqb}
 use lib.ListN.{length, take}
 use lib.Seq.{take-at}
 use borrow.Author.Tests.{eqb-true, eqb-false, ne-eqb}
+use Rattle.meaning.specs.declared.Kind.{Kind}
+use Rattle.meaning.specs.declared.Kind.the-variants.{Writer}
 use Rattle.meaning.specs.declared.Thread.{Thread}
 use Rattle.meaning.specs.declared.Effect.{Effect}
 use Rattle.meaning.specs.Numbers.{WENT, FINISHED}
 use Rattle.meaning.specs.Limits.{inLimits}
 use Rattle.meaning.specs.Store.{Store, idle, fresh}
-use Rattle.meaning.specs.Holding.{free, heldBy}
+use Rattle.meaning.specs.Holding.{unwritten, held, writer}
 use Rattle.meaning.specs.Programs.{WRITE, READ, LEVEL, lastTake}
 use Rattle.meaning.specs.Step.{nothing, apply}
 use Rattle.meaning.specs.Call.{Entry, begin, step, callStore, isIdle, begun}
 use Rattle.meaning.specs.Manager.{Manager, initial, ebmRead}
 use Rattle.meaning.specs.Schedule.{Operation, operation, Answered, emit, takesLast, pastLast, placed, run, placing, finishing, order, finishedBy, obeyAll, managed, ofManager}
 use Rattle.meaning.specs.Demands.{kept, leavesAlone, Owed, none-owed, one-owed}
-use Rattle.meaning.proofs.Base.Words.{same, either-way, clash, or-way, two-ways, held-by, upd-same}
+use Rattle.meaning.proofs.Base.Words.{same, either-way, clash, or-way, two-ways, upd-same}
+use Rattle.meaning.proofs.Base.Sets.{writer-found}
 use Rattle.meaning.proofs.Invariant.{takesN, Stands, Inv}
 use Rattle.meaning.proofs.Invariant.Keeping.{Moves, up}
-use Rattle.meaning.proofs.Invariant.Sharing.{fact}
+use Rattle.meaning.proofs.Invariant.Sharing.{fact, few}
 use Rattle.meaning.proofs.Lines.{GoesOn}
 use Rattle.meaning.proofs.Lines.EveryLine.{idle-is}
 use Rattle.meaning.proofs.Progress.{inv-fresh, inv-call, inv-run}
@@ -33,7 +36,7 @@ use Rattle.meaning.proofs.Manager.View.{status, asked, leaves, future, 
 use Rattle.meaning.proofs.Progress.Called.{CallCases, stays, opens, goes, ends, call-cases}
 use Rattle.meaning.proofs.Base.Schedules.{replyOf, placing-append, finishing-append}
 use Rattle.meaning.proofs.Manager.Laws.{operation-asked, level-obeys, obeyAll-append, managed-passes}
-use Rattle.meaning.proofs.Manager.Step.{future-free, future-held, future-step, takes-status, owing-others}
+use Rattle.meaning.proofs.Manager.Step.{future-unwritten, future-step, takes-status, owing-others}
 
 -- the manager has of each number what the store says will become of it
 abbrev pub Matches : Store → Manager → Type 0
@@ -183,18 +186,18 @@ matches-run s I m M (e ∷ w) =
 
 -- ---- demand 2
 
-future-alone : (s : Store) (k : ℕ) → ((v : ℕ) → heldBy v (s .locks k) ≡ true → leavesAlone (s .thread v) ≡ true) → future s k ≡ status s k
-future-alone s k alone =
-    either-way (free (s .locks k)) (λ f. future-free s k f)
-    (λ f.
-    let v = held-by (s .locks k) f in
-    let r = s .thread (v .0) in
-    future-held s k (v .0) (v .1) ∙
-    either-way (eqb (r .op) LEVEL) (λ x. rw x)
+future-alone : (s : Store) → Inv s → (k : ℕ) →
+    ((κ : Kind) (v : ℕ) → held κ v (s .locks k) ≡ true → leavesAlone (s .thread v) ≡ true) → future s k ≡ status s k
+future-alone s I k alone =
+    either-way (unwritten (s .locks k)) (λ u. future-unwritten s k u)
+    (λ u.
+    let r = s .thread (writer (s .locks k)) in
+    let idles = alone Writer (writer (s .locks k)) (writer-found (s .threads) (few s I) (s .locks k) (I .locks k) u) in
+    rw u (either-way (eqb (r .op) LEVEL) (λ x. rw x)
     (λ x.
-    let reads : eqb (r .op) READ ≡ true = rw x at (alone (v .0) (v .1)) in
+    let reads : eqb (r .op) READ ≡ true = rw x at idles in
     let writes : eqb (r .op) WRITE ≡ false = rw (eqb-true (r .op) READ reads) in
-    rw (x, writes, reads)))
+    rw (x, writes, reads))))
 
 -- the answer that is owed to a thread with its place is owed by the manager, but for a levelling's answer
 pub owing-owed : (s : Store) → Inv s → (u : ℕ) → (l : List Answered) × Owed s u l × (owing s u ≡ ofManager l)
@@ -240,14 +243,16 @@ module _ (t n p d : ℕ) (limits : inLimits t n p d ≡ true) (w : List Entry) w
 
   -- whether k is mapped, and what its block holds, is what the manager has of it: where only a reader or a leveller may have k's lock
   pub manager-status : (k : ℕ) →
-      ((v : ℕ) → heldBy v (run callStore (fresh t n p d) w .locks k) ≡ true →
+      ((κ : Kind) (v : ℕ) → held κ v (run callStore (fresh t n p d) w .locks k) ≡ true →
       leavesAlone (run callStore (fresh t n p d) w .thread v) ≡ true) →
       status (run callStore (fresh t n p d) w) k ≡ asked k (obeyAll initial (order callStore (λ s. s) (fresh t n p d) w))
-  manager-status k alone = sym (manager-will k ∙ future-alone (run callStore (fresh t n p d) w) k alone)
+  manager-status k alone =
+      sym (manager-will k ∙
+      future-alone (run callStore (fresh t n p d) w) (inv-run (fresh t n p d) (inv-fresh t n p d limits) w) k alone)
 
   -- so at rest, where all threads are idle, of every number
   pub manager-status-rest : ((v : ℕ) → isIdle (run callStore (fresh t n p d) w .thread v) ≡ true) → (k : ℕ) →
       status (run callStore (fresh t n p d) w) k ≡ asked k (obeyAll initial (order callStore (λ s. s) (fresh t n p d) w))
   manager-status-rest rest k =
       let I = inv-run (fresh t n p d) (inv-fresh t n p d limits) w in
-      manager-status k (λ v h. clash h (I .holds v .locks k ∙ rw (idle-is _ (I .stands v) (rest v))))
+      manager-status k (λ κ v h. clash h (I .holds v .locks κ k ∙ rw (idle-is _ (I .stands v) (rest v))))

@@ -1,7 +1,7 @@
 -- What a store says of the atomic manager of specs/Manager, whatever threads are at work in it: what will become of each number (is it
 -- mapped, and what does it hold), `future`, and which answer a thread that has taken its last lock has still to get, `owing`. A writer, reader or
--- unmapper takes its last lock, n's, at W2, R1 and U2, and holds it while it works on n: so what will become of n is what that thread's
--- operation leaves there, and nobody else changes it. Where n's lock is free it is what the map and n's block say.
+-- unmapper takes its last lock, n's, at W2, R1 and U2, and holds it while it works on n: so where n's lock has a writer, what will become of n
+-- is what that thread's operation leaves there, and nobody else changes it. Where nobody writes it is what the map and n's block say.
 -- Definitions only. Assumes nothing.
 use mathlib.Core.Bool.{Bool, true, false, cond, _&&_, not}
 use mathlib.Core.List.{List, []}
@@ -9,7 +9,7 @@ use Prim.Native.Nat.{ℕ}
 use lib.Dec.{eqb}
 use Rattle.meaning.specs.declared.Thread.{Thread}
 use Rattle.meaning.specs.Store.{Store}
-use Rattle.meaning.specs.Holding.{free, named}
+use Rattle.meaning.specs.Holding.{unwritten, writer}
 use Rattle.meaning.specs.Programs.{WRITE, READ, LEVEL}
 use Rattle.meaning.specs.Manager.{Manager, empty, ebmRead}
 use Rattle.meaning.specs.Schedule.{Answered, emit}
@@ -39,11 +39,11 @@ leaves op c x =
 abbrev pub promised : Thread → Status → Status
 promised r x = cond (holdsN r) (leaves (r .op) (r .c) x) x
 
--- what will become of number k: the thread that holds its lock, if any, decides
+-- what will become of number k: the thread that writes its lock, if any, decides
 abbrev pub future : Store → ℕ → Status
 future s k =
-    cond (free (s .locks k)) (status s k)
-    (leaves (s .thread (named (s .locks k)) .op) (s .thread (named (s .locks k)) .c) (status s k))
+    cond (unwritten (s .locks k)) (status s k)
+    (leaves (s .thread (writer (s .locks k)) .op) (s .thread (writer (s .locks k)) .c) (status s k))
 
 -- ---- an operation of the manager's: write, read, unmap, and no levelling
 

@@ -2,31 +2,33 @@
 -- its place comes there to what it comes to in s, and within as many steps as the longest program has lines.
 -- Assumes nothing.
 use mathlib.Core.Path.{_≡_, refl, sym, ap, _∙_, subst, fun-ext}
-use mathlib.Core.Bool.{Bool, true, false, cond}
+use mathlib.Core.Bool.{Bool, true, false, cond, or-true}
 use mathlib.Core.List.{List, [], _∷_}
-use Prim.Native.Nat.{ℕ, zero, suc, _+_, _<_}
+use Prim.Native.Nat.{ℕ, zero, suc, _+_, _-_, _<_}
 use native.Mathlib.Omega.{arith}
 use lib.Dec.{eqb, ltb, leb}
 use borrow.Author.Tests.{not-false, eqb-true, eqb-false, leb-true}
+use Rattle.meaning.specs.declared.Kind.{Kind}
+use Rattle.meaning.specs.declared.Kind.the-variants.{Reader, Writer}
 use Rattle.meaning.specs.declared.Act.{Act}
 use Rattle.meaning.specs.declared.Thread.{Thread}
 use Rattle.meaning.specs.declared.Word.{Word}
 use Rattle.meaning.specs.declared.Word.the-variants.{Stay, Become}
-use Rattle.meaning.specs.declared.Update.{Update}
-use Rattle.meaning.specs.declared.Update.the-variants.{Keep, Put}
+use Rattle.meaning.specs.declared.Pass.{Pass}
 use Rattle.meaning.specs.declared.Effect.{Effect}
 use Rattle.meaning.specs.declared.Verdict.the-variants.{Blocked, Fault}
 use Rattle.meaning.specs.Table.{upd}
 use Rattle.meaning.specs.Store.{Store, idle}
-use Rattle.meaning.specs.Holding.{none, free, by, heldBy}
+use Rattle.meaning.specs.Holding.{none, free, by, heldBy, mark, held, admits}
 use Rattle.meaning.specs.Programs.{actAt}
-use Rattle.meaning.specs.Step.{block, perform, verdict, become, put, apply}
-use Rattle.meaning.specs.Needs.{Need, holds-H, holds-N, unowned-headers, unowned, owns-headers, owns, headed, some-free, met, allMet, Asks, takes-H, takes-N, needs, no-line, asks, fails, waits}
+use Rattle.meaning.specs.Step.{block, perform, verdict, become, put, came, apply}
+use Rattle.meaning.specs.Needs.{Need, holds-H, holds-N, unowned-headers, ownable, owns-headers, owns, owns-either, headed, some-free, met, allMet, Asks, takes-H, takes-N, needs, no-line, asks, fails, waits}
 use Rattle.meaning.specs.Call.{Reply, step, callStore, isIdle}
 use Rattle.meaning.specs.Schedule.{Answered, placed, run, finishedBy, steps, longest}
-use Rattle.meaning.proofs.Base.Words.{same, either-way, and-left, and-right, by-held, held-is, none-held, upd-same, upd-other}
+use Rattle.meaning.proofs.Base.Words.{same, either-way, and-left, and-right, or-way, by-held, held-is, none-held, upd-same, upd-other}
+use Rattle.meaning.proofs.Base.Sets.{kind-same, admits-lacks, joins-self, quits-self, mark-held, writer-writes, free-admits}
 use Rattle.meaning.proofs.Base.Schedules.{replyOf}
-use Rattle.meaning.proofs.Invariant.{holdsH, holdsLock, ownsHeaders, ownsBlock, takesH, takesLock, Passes, takes, gives-up, Becomes, Puts, Guards, Inv}
+use Rattle.meaning.proofs.Invariant.{holdsH, holdsLock, ownsHeaders, ownsBlock, takesH, takesLock, Passes, takes, gives-up, Joins, leaves-all, joins, quits, Becomes, Guards, Inv}
 use Rattle.meaning.proofs.Invariant.Keeping.{everywhere}
 use Rattle.meaning.proofs.Acts.{Sight, map-of-n, headers, all-wear, content-of-p, shape, was-ready, SameSights, same-deed}
 use Rattle.meaning.proofs.Lines.EveryLine.{idle-is}
@@ -41,6 +43,10 @@ use Rattle.meaning.proofs.OneAtATime.Settles.{cleared, stepped, stepped
 abbrev mine : ℕ → ℕ → ℕ
 mine t w = cond (heldBy t w) w none
 
+-- what t adds to a word that has readers or a writer
+abbrev share : ℕ → ℕ → ℕ
+share t w = cond (held Reader t w) (mark Reader t) (cond (held Writer t w) (mark Writer t) none)
+
 abbrev pub alone : ℕ → Store → Store
 alone t s =
     record {
@@ -52,11 +58,11 @@ alone t s =
       owner = mine t (s .owner);
       thread = λ v. cond (eqb t v) (s .thread v) idle;
       map = s .map;
-      locks = λ k. mine t (s .locks k);
+      locks = λ k. share t (s .locks k);
       header = s .header;
       content = s .content;
       wear = s .wear;
-      own = λ m. mine t (s .own m);
+      own = λ m. share t (s .own m);
     }
 
 -- ---- a step of a thread alone
@@ -67,15 +73,32 @@ mine-held t w = either-way (heldBy t w) (λ h. rw (h, h)) (λ h. rw (h, none-hel
 mine-free : (t w : ℕ) → free w ≡ true → free (mine t w) ≡ true
 mine-free t w f = either-way (heldBy t w) (λ h. rw h f) (λ h. rw h)
 
+share-is : (κ : Kind) (t w : ℕ) → held κ t w ≡ true → share t w ≡ mark κ t
+share-is Reader t w h = rw h
+share-is Writer t w h = rw (writer-writes t w h, h)
+
+share-none : (t w : ℕ) → ((κ : Kind) → held κ t w ≡ false) → share t w ≡ none
+share-none t w lacks = rw (lacks Reader, lacks Writer)
+
+share-held : (κ : Kind) (t w : ℕ) → held κ t w ≡ true → held κ t (share t w) ≡ true
+share-held κ t w h = ap (held κ t) (share-is κ t w h) ∙ mark-held κ t w h
+
+share-admits : (κ : Kind) (t w : ℕ) → admits κ t w ≡ true → admits κ t (share t w) ≡ true
+share-admits κ t w a = rw (share-none t w (λ κ′. admits-lacks κ κ′ t w a)) (free-admits κ t none refl)
+
 -- what an act needs, t has alone too, and sees the same
 module _ (s : Store) (t : ℕ) (r : Thread) where
   met-alone : (x : Need) → met s t r x ≡ true → met (alone t s) t r x ≡ true
   met-alone holds-H m = mine-held t (s .lock) ∙ m
-  met-alone holds-N m = mine-held t (s .locks (r .n)) ∙ m
+  met-alone (holds-N κ) m = share-held κ t (s .locks (r .n)) m
   met-alone unowned-headers m = mine-free t (s .owner) m
-  met-alone (unowned b) m = mine-free t (s .own (block b r)) m
+  met-alone (ownable κ b) m = share-admits κ t (s .own (block b r)) m
   met-alone owns-headers m = mine-held t (s .owner) ∙ m
-  met-alone (owns b) m = mine-held t (s .own (block b r)) ∙ m
+  met-alone (owns κ b) m = share-held κ t (s .own (block b r)) m
+  met-alone (owns-either b) m =
+      let w = s .own (block b r) in
+      or-way (held Reader t w) (held Writer t w) m (λ h. rw (share-held Reader t w h))
+      (λ h. rw (share-held Writer t w h) (or-true (held Reader t (share t w))))
   met-alone (headed b) m = m
   met-alone some-free m = m
 
@@ -86,13 +109,13 @@ module _ (s : Store) (t : ℕ) (r : Thread) where
 
   fails-alone : (a : Asks) → fails s t r a ≡ false → fails (alone t s) t r a ≡ false
   fails-alone takes-H m = m
-  fails-alone takes-N m = m
+  fails-alone (takes-N κ) m = m
   fails-alone (needs l) m = rw (all-alone l (not-false (allMet s t r l) m))
   fails-alone no-line m = m
 
-  waits-alone : (a : Asks) → waits s r a ≡ false → waits (alone t s) r a ≡ false
+  waits-alone : (a : Asks) → waits s t r a ≡ false → waits (alone t s) t r a ≡ false
   waits-alone takes-H w = rw (mine-free t (s .lock) (not-false (free (s .lock)) w))
-  waits-alone takes-N w = rw (mine-free t (s .locks (r .n)) (not-false (free (s .locks (r .n))) w))
+  waits-alone (takes-N κ) w = rw (share-admits κ t (s .locks (r .n)) (not-false (admits κ t (s .locks (r .n))) w))
   waits-alone (needs l) w = w
   waits-alone no-line w = w
 
@@ -118,11 +141,19 @@ word-alone : (about : Type 0) (t : ℕ) (c : Word) (w : ℕ) → Becomes c (Pass
 word-alone about t Stay w x = refl
 word-alone about t (Become w′) w x = passes-mine t w w′ x
 
-entry-alone : (about : ℕ → Type 0) (t : ℕ) (c : Update) (f : ℕ → ℕ) → Puts c (λ k. Passes (about k) t (f k)) →
-    put c (λ k. mine t (f k)) ≡ (λ k. mine t (put c f k))
-entry-alone about t Keep f x = refl
-entry-alone about t (Put i w) f x =
-    fun-ext (λ k. either-way (eqb i k) (λ e. rw e (passes-mine t (f i) w x)) (λ e. rw e))
+entry-alone : (about : Kind → ℕ → Type 0) (t : ℕ) (c : Pass) (f : ℕ → ℕ) → Joins about t f c →
+    put (came (λ k. share t (f k)) c) (λ k. share t (f k)) ≡ (λ k. share t (put (came f c) f k))
+entry-alone about t c f leaves-all = refl
+entry-alone about t c f (joins κ i b a _) =
+    let w = f i in
+    let before = share-none t w (λ κ′. admits-lacks κ κ′ t w a) in
+    let after = share-is κ t (w + mark κ t) (joins-self κ κ t w b a ∙ kind-same κ) in
+    fun-ext (λ k. either-way (eqb i k) (λ e. rw (e, after) (ap (λ x. x + mark κ t) before ∙ omega arith)) (λ e. rw e))
+entry-alone about t c f (quits κ i h) =
+    let w = f i in
+    let before = share-is κ t w h in
+    let after = share-none t (w - mark κ t) (λ κ′. quits-self κ κ′ t w h) in
+    fun-ext (λ k. either-way (eqb i k) (λ e. rw (e, after) (ap (λ x. x - mark κ t) before ∙ omega arith)) (λ e. rw e))
 
 -- t's new record, where nobody else is at work
 pub threads-alone : (t : ℕ) (f g : ℕ → Thread) (r′ : Thread) → g t ≡ r′ →
@@ -142,11 +173,11 @@ apply-alone s t r r′ e G =
       owner = word-alone Unit t (e .owner) (s .owner) (G .owner) i;
       thread = threads-alone t (s .thread) (upd (s .thread) t r′) r′ (upd-same (s .thread) t r′) i;
       map = put (e .map) (s .map);
-      locks = entry-alone (λ k. takesLock r k ≡ true) t (e .locks) (s .locks) (G .locks) i;
+      locks = entry-alone (λ κ k. takesLock κ r k ≡ true) t (e .locks) (s .locks) (G .locks) i;
       header = put (e .header) (s .header);
       content = put (e .content) (s .content);
       wear = put (e .wear) (s .wear);
-      own = entry-alone (λ m. Unit) t (e .own) (s .own) (G .own) i;
+      own = entry-alone (λ κ m. Unit) t (e .own) (s .own) (G .own) i;
     }
 
 module _ (s : Store) (I : Inv s) (t : ℕ) (g : Going s t) where
@@ -231,8 +262,8 @@ mine-if : (t w : ℕ) (flag : Bool) → heldBy t w ≡ flag → mine t w ≡ con
 mine-if t w true h = rw h (held-is t w h)
 mine-if t w false h = rw h
 
-pub alone-solo : (s : Store) → Inv s → (t : ℕ) (r : Thread) → s .thread t ≡ r → ((k : ℕ) → holdsLock r k ≡ false) →
-    ((m : ℕ) → ownsBlock r m ≡ false) →
+pub alone-solo : (s : Store) → Inv s → (t : ℕ) (r : Thread) → s .thread t ≡ r → ((κ : Kind) (k : ℕ) → holdsLock κ r k ≡ false) →
+    ((κ : Kind) (m : ℕ) → ownsBlock κ r m ≡ false) →
     alone t s ≡ solo s t r (cond (holdsH r) (by t) none) (cond (ownsHeaders r) (by t) none)
 alone-solo s I t r is locks own =
     λ i. record {
@@ -244,11 +275,11 @@ alone-solo s I t r is locks own =
       owner = mine-if t (s .owner) (ownsHeaders r) (I .holds t .owner ∙ ap ownsHeaders is) i;
       thread = threads i;
       map = s .map;
-      locks = λ k. mine-if t (s .locks k) false (I .holds t .locks k ∙ ap (λ (r : Thread). holdsLock r k) is ∙ locks k) i;
+      locks = λ k. share-none t (s .locks k) (λ κ. I .holds t .locks κ k ∙ ap (λ (r : Thread). holdsLock κ r k) is ∙ locks κ k) i;
       header = s .header;
       content = s .content;
       wear = s .wear;
-      own = λ m. mine-if t (s .own m) false (I .holds t .own m ∙ ap (λ (r : Thread). ownsBlock r m) is ∙ own m) i;
+      own = λ m. share-none t (s .own m) (λ κ. I .holds t .own κ m ∙ ap (λ (r : Thread). ownsBlock κ r m) is ∙ own κ m) i;
     }
   where
     threads : _≡_ {A = ℕ → Thread} (λ v. cond (eqb t v) (s .thread v) idle) (λ v. cond (eqb t v) r idle)
@@ -256,7 +287,7 @@ alone-solo s I t r is locks own =
 
 alone-idle : (s : Store) → Inv s → (t : ℕ) → s .thread t ≡ idle → alone t s ≡ cleared s
 alone-idle s I t is =
-    alone-solo s I t idle is (λ k. refl) (λ m. refl)
+    alone-solo s I t idle is (λ κ k. refl) (λ κ m. refl)
     ∙ ap (λ (f : ℕ → Thread). with-threads s f none none)
     (fun-ext (λ v. either-way (eqb t v) (λ e. rw e) (λ e. rw e)))
 

@@ -3,7 +3,7 @@
 -- until it finishes (`placed-until-finished`); and an operation that has its place is at no take (`placed-no-take` of Places) and can
 -- step (`placed-steps`).
 -- Assumes nothing.
-use mathlib.Core.Path.{_≡_, refl, sym, _∙_, subst}
+use mathlib.Core.Path.{_≡_, refl, sym, ap, _∙_, subst}
 use mathlib.Core.Bool.{true, false, _&&_, _||_, or-false}
 use mathlib.Core.List.{List, [], _∷_}
 use mathlib.Core.Logic.{inl, inr}
@@ -11,6 +11,8 @@ use Prim.Native.Nat.{ℕ}
 use native.Mathlib.Omega.{arith}
 use lib.Dec.{eqb, leb}
 use borrow.Author.Tests.{eqb-true, eqb-false}
+use Rattle.meaning.specs.declared.Kind.{Kind}
+use Rattle.meaning.specs.declared.Kind.the-variants.{Reader, Writer}
 use Rattle.meaning.specs.declared.Act.the-variants.{TakeN}
 use Rattle.meaning.specs.declared.Thread.{Thread}
 use Rattle.meaning.specs.declared.Effect.{Effect}
@@ -41,9 +43,11 @@ last-takes s I t busy takes =
     let on = open-line r (I .stands t) busy in
     let op = within-true WRITE LEVEL (r .op) (and-left _ (within 1 (lastLine (r .op)) (r .line)) on) in
     or-way (eqb (r .line) (lastTake (r .op))) _ takes
-    (λ x. inr (rw (eqb-true (r .line) (lastTake (r .op)) x)
-    (from-at (λ op. actAt op (lastTake op) ≡ TakeN) LEVEL WRITE (refl ▸ refl ▸ refl ▸ refl ▸ tt) (r .op)
-    (omega arith) (omega arith))))
+    (λ x.
+    let take =
+    from-at (λ op. (κ : Kind) × (actAt op (lastTake op) ≡ TakeN κ)) LEVEL WRITE
+    ((Writer, refl) ▸ (Reader, refl) ▸ (Writer, refl) ▸ (Writer, refl) ▸ tt) (r .op) (omega arith) (omega arith) in
+    inr (take .0, ap (actAt (r .op)) (eqb-true (r .line) (lastTake (r .op)) x) ∙ take .1))
     (λ x.
     let y = and-left (eqb (r .op) LEVEL && eqb (r .line) unmovedTake) _ x in
     inl (rw (

@@ -323,7 +323,7 @@ module _ (s : Store) (I : Inv s) (t : ℕ) (has : placed s (s .thread t) ≡ tru
   -- it is at no take
   pub placed-no-take : AtTake (s .thread t) → ⊥
   placed-no-take (inl x) = clash (ap (λ (a : Act). isTake (asks a)) x) (not-true _ (and-left goes-on takes-none placed-takes))
-  placed-no-take (inr x) = clash (ap (λ (a : Act). isTake (asks a)) x) (not-true _ (and-left goes-on takes-none placed-takes))
+  placed-no-take (inr x) = clash (ap (λ (a : Act). isTake (asks a)) (x .1)) (not-true _ (and-left goes-on takes-none placed-takes))
 
   pub placed-takesH : takesH (s .thread t) ≡ false
   placed-takesH = not-true _ (and-left (not (takesH (s .thread t))) _ (and-right goes-on takes-none placed-takes))
@@ -337,7 +337,7 @@ module _ (s : Store) (I : Inv s) (t : ℕ) (has : placed s (s .thread t) ≡ tru
   verdict-going : (v : Verdict) → v ≡ verdict s t → Fine s t (s .thread t) v →
       Lands (actAt (s .thread t .op) (s .thread t .line)) s t (s .thread t) v → Going s t
   verdict-going Blocked e f l =
-      clash (waits-take s (s .thread t) (asks (actAt (s .thread t .op) (s .thread t .line))) (l .1))
+      clash (waits-take s t (s .thread t) (asks (actAt (s .thread t .op) (s .thread t .line))) (l .1))
       (not-true _ (and-left goes-on takes-none placed-takes))
   verdict-going Fault e f l = absurd f
   verdict-going (Go r′ x) e f l = told-going s t (placed-busy .0) (placed-busy .1) (Go r′ x) e refl

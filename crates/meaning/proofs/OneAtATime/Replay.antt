@@ -10,10 +10,12 @@ use Prim.Native.Nat.{ℕ, _+_, _-_, _<_}
 use native.Mathlib.Omega.{arith}
 use lib.Dec.{eqb, ltb}
 use borrow.Author.Tests.{eqb-true, lt-ltb}
+use Rattle.meaning.specs.declared.Kind.{Kind}
 use Rattle.meaning.specs.declared.Thread.{Thread}
 use Rattle.meaning.specs.declared.Word.{Word}
 use Rattle.meaning.specs.declared.Word.the-variants.{Stay, Become}
 use Rattle.meaning.specs.declared.Update.the-variants.{Keep}
+use Rattle.meaning.specs.declared.Pass.the-variants.{Leave}
 use Rattle.meaning.specs.declared.Effect.{Effect}
 use Rattle.meaning.specs.declared.Verdict.the-variants.{Go}
 use Rattle.meaning.specs.Limits.{within}
@@ -61,7 +63,7 @@ plays-next x x′ y (step t) w is P =
 -- an effect on H and the headers' owner alone
 abbrev onHeld : Word → Word → Effect
 onHeld a b =
-    record { lock = a; owner = b; map = Keep; locks = Keep; header = Keep; content = Keep; wear = Keep; own = Keep }
+    record { lock = a; owner = b; map = Keep; locks = Leave; header = Keep; content = Keep; wear = Keep; own = Leave }
 
 module _ (s : Store) (t : ℕ) (below : t < s .threads) where
   solo-begin : (op n c : ℕ) → within WRITE LEVEL op ≡ true → (eqb op LEVEL || ltb n (s .numbers)) ≡ true →
@@ -91,7 +93,7 @@ module _ (s : Store) (I : Inv s) (t : ℕ) (below : t < s .threads) where
   From-begin r = Plays (cleared s) (begin t (r .op) (storedN (r .op) (r .n)) (storedC (r .op) (r .c)) ∷ steps (r .line - 1) t [])
       (solo s t r (cond (holdsH r) (by t) none) (cond (ownsHeaders r) (by t) none))
 
-  replayed : (r : Thread) → s .thread t ≡ r → ((k : ℕ) → holdsLock r k ≡ false) → ((m : ℕ) → ownsBlock r m ≡ false) →
+  replayed : (r : Thread) → s .thread t ≡ r → ((κ : Kind) (k : ℕ) → holdsLock κ r k ≡ false) → ((κ : Kind) (m : ℕ) → ownsBlock κ r m ≡ false) →
       0 < r .line → From-begin r → Replayed s t
   replayed r is locks own first P =
       record {
@@ -156,28 +158,28 @@ module _ (s : Store) (I : Inv s) (t : ℕ) (below : t < s .threads) where
         let q = rw (o, l) at (f .unset-q) in
         let h = rw (o, l) at (f .unset-h) in
         replayed (at WRITE 2 (r .n) (r .c) 0 0 0) (λ i. at (o i) (l i) (r .n) (r .c) (p i) (q i) (h i))
-        (λ k. refl) (λ m. refl) (omega arith) (replay-write (r .n) (r .c) (f .n-below)))
+        (λ κ k. refl) (λ κ m. refl) (omega arith) (replay-write (r .n) (r .c) (f .n-below)))
         ▸ (λ o l.
         let c = rw (o, l) at (f .unset-c) in
         let p = rw (o, l) at (f .unset-p) in
         let q = rw (o, l) at (f .unset-q) in
         let h = rw (o, l) at (f .unset-h) in
         replayed (at READ 1 (r .n) 0 0 0 0) (λ i. at (o i) (l i) (r .n) (c i) (p i) (q i) (h i))
-        (λ k. refl) (λ m. refl) (omega arith) (replay-read (r .n) (f .n-below)))
+        (λ κ k. refl) (λ κ m. refl) (omega arith) (replay-read (r .n) (f .n-below)))
         ▸ (λ o l.
         let c = rw (o, l) at (f .unset-c) in
         let p = rw (o, l) at (f .unset-p) in
         let q = rw (o, l) at (f .unset-q) in
         let h = rw (o, l) at (f .unset-h) in
         replayed (at UNMAP 2 (r .n) 0 0 0 0) (λ i. at (o i) (l i) (r .n) (c i) (p i) (q i) (h i))
-        (λ k. refl) (λ m. refl) (omega arith) (replay-unmap (r .n) (f .n-below)))
+        (λ κ k. refl) (λ κ m. refl) (omega arith) (replay-unmap (r .n) (f .n-below)))
         ▸ (λ o l.
         let c = rw (o, l) at (f .unset-c) in
         let chosen = rw (o, l) at (f .chosen) in
         let headed = rw (o, l) at (f .headed-p) in
         let names = rw (o, l) at (f .names-n) in
         replayed (at LEVEL 6 (r .n) 0 (r .p) (r .q) (r .h)) (λ i. at (o i) (l i) (r .n) (c i) (r .p) (r .q) (r .h))
-        (λ k. refl) (λ m. refl) (omega arith)
+        (λ κ k. refl) (λ κ m. refl) (omega arith)
         (replay-level (r .n) (r .p) (r .q) (r .h) chosen (headed ∙ sym names) names))
         ▸ tt
 
@@ -189,7 +191,7 @@ module _ (s : Store) (I : Inv s) (t : ℕ) (below : t < s .threads) where
         let q = rw (o, l) at (f .unset-q) in
         let h = rw (o, l) at (f .unset-h) in
         replayed (at LEVEL 1 0 0 0 0 0) (λ i. at (o i) (l i) (n i) (c i) (p i) (q i) (h i))
-        (λ k. refl) (λ m. refl) (omega arith) replay-unmoved
+        (λ κ k. refl) (λ κ m. refl) (omega arith) replay-unmoved
 
     pub last-replayed : Replayed s t
     last-replayed =

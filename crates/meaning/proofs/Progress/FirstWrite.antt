@@ -10,6 +10,7 @@ use Prim.Native.Nat.{ℕ, _≤_}
 use native.Mathlib.Omega.{arith}
 use lib.Dec.{eqb, leb}
 use borrow.Author.Tests.{leb-true, eqb-true, eqb-false, ne-eqb, le-leb, lt-ltb}
+use Rattle.meaning.specs.declared.Kind.the-variants.{Writer}
 use Rattle.meaning.specs.declared.Thread.{Thread}
 use Rattle.meaning.specs.declared.Verdict.{Verdict}
 use Rattle.meaning.specs.declared.Verdict.the-variants.{Blocked, Fault, Go, Done}
@@ -18,17 +19,18 @@ use Rattle.meaning.specs.declared.Update.the-variants.{Keep}
 use Rattle.meaning.specs.declared.Effect.{Effect}
 use Rattle.meaning.specs.Numbers.{FINISHED}
 use Rattle.meaning.specs.Store.{Store, idle}
-use Rattle.meaning.specs.Holding.{free, heldBy, naming}
+use Rattle.meaning.specs.Holding.{heldBy, held, admits, naming}
 use Rattle.meaning.specs.Programs.{WRITE, actAt}
 use Rattle.meaning.specs.Manager.{empty}
 use Rattle.meaning.specs.Step.{nothing, onward, onContent, need, next, touches, perform, verdict, apply}
 use Rattle.meaning.specs.Call.{Entry, begin, step, callStore, reply, told, begun}
 use Rattle.meaning.specs.Schedule.{run, finishedBy}
 use Rattle.meaning.specs.Demands.{EmptyTillW14}
-use Rattle.meaning.proofs.Base.Words.{same, either-way, clash, and-left, and-right, or-way, held-once, upd-same}
+use Rattle.meaning.proofs.Base.Words.{same, either-way, clash, and-left, and-right, or-way, upd-same}
+use Rattle.meaning.proofs.Base.Sets.{writer-alone}
 use Rattle.meaning.proofs.Base.Schedules.{by-step, finishing-none}
-use Rattle.meaning.proofs.Invariant.{holdsN, n-on-p, p-headed, GuardsContent, Inv}
-use Rattle.meaning.proofs.Invariant.Keeping.{up, put-kept, Moves}
+use Rattle.meaning.proofs.Invariant.{kind, holdsN, n-on-p, p-headed, GuardsContent, Inv}
+use Rattle.meaning.proofs.Invariant.Keeping.{up, put-kept, n-locked, Moves}
 use Rattle.meaning.proofs.Invariant.Sharing.{fact}
 use Rattle.meaning.proofs.Lines.{Fine, at, From, _▸_, from-at}
 use Rattle.meaning.proofs.Lines.EveryLine.{fine}
@@ -63,14 +65,14 @@ module _ (s : Store) (t : ℕ) where
 
   walking : From (Walking WRITE) 9 8
   walking =
-      (λ n c p q h. needed (heldBy t (s .own p)) _ _ (refl, λ _. refl))  -- W9
+      (λ n c p q h. needed (held Writer t (s .own p)) _ _ (refl, λ _. refl))  -- W9
       ▸ (λ n c p q h. (refl, λ _. refl))  -- W10
       ▸ (λ n c p q h. needed (heldBy t (s .owner)) _ _ (refl, λ _. refl))  -- W11
       ▸ (λ n c p q h. needed (heldBy t (s .lock)) _ _ (refl, λ _. refl))  -- W12
-      ▸ (λ n c p q h. needed (free (s .own p)) _ _ (refl, λ _. refl))  -- W13
+      ▸ (λ n c p q h. needed (admits Writer t (s .own p)) _ _ (refl, λ _. refl))  -- W13
       ▸ (λ n c p q h. needed (touches s t p) _ _ (refl, λ x. absurd (omega arith)))  -- W14
-      ▸ (λ n c p q h. needed (heldBy t (s .own p)) _ _ (refl, λ _. refl))  -- W15
-      ▸ (λ n c p q h. needed (heldBy t (s .locks n)) _ _ tt)  -- W16
+      ▸ (λ n c p q h. needed (held Writer t (s .own p)) _ _ (refl, λ _. refl))  -- W15
+      ▸ (λ n c p q h. needed (held Writer t (s .locks n)) _ _ tt)  -- W16
       ▸ tt
 
 -- ---- a call
@@ -126,10 +128,10 @@ module _ (s : Store) (I : Inv s) (t : ℕ) (D : HasDoneW8 t s) where
       let headed : s .header (r .p) ≡ naming (r .n) =
       or-way (p-headed r) (n-on-p r) (and-left (p-headed r || n-on-p r) _ known) (λ x. fact (p-headed r) _ x (F .headed-p))
       (λ x. I .agrees .headed (r .n) (r .p) (fact (n-on-p r) _ x (F .on-p))) in
-      let mine : heldBy t (s .locks (r .n)) ≡ true =
-      I .holds t .locks (r .n) ∙ rw (and-right (p-headed r || n-on-p r) _ known, same (r .n)) in
+      let mine : held (kind r) t (s .locks (r .n)) ≡ true =
+      I .holds t .locks (kind r) (r .n) ∙ n-locked r (and-right (p-headed r || n-on-p r) _ known) in
       let kept = put-kept (e .content) (s .content) (λ m w. GuardsContent s u m) (M .guards .content) (r .p)
-      (λ w g. apart (held-once u t (s .locks (r .n)) (g .heads (r .n) headed) mine)) in
+      (λ w g. apart (writer-alone (kind r) u t (s .locks (r .n)) (g .heads (r .n) headed) mine)) in
       rw (ne-eqb u t apart) (record { op = D .op; line = D .line; holds = λ x. kept ∙ D .holds x })
 
   others-keep : {e : Entry} → CallCases s e → NoStepOf t e → HasDoneW8 t (callStore s e .after)

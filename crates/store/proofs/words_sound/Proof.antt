@@ -11,7 +11,7 @@ abbrev placed : tie.After-threads-sound → tie.After-blocks-at
 placed c = c .before .before .before
 
 -- the threads' records have been tested
-abbrev threads : tie.After-all-at-most4 → tie.After-threads-sound
+abbrev threads : tie.After-all-proper2 → tie.After-threads-sound
 threads c = c .before .before .before .before
 
 -- the function's start, from where the places have been worked out
@@ -26,9 +26,9 @@ returns c =
       threads c .before .word-at2 .ensures,
       threads c .threads-sound .ensures,
       c .before .before .before .all-at-most .ensures,
-      c .before .before .all-at-most2 .ensures,
-      c .before .all-at-most3 .ensures,
-      c .all-at-most4 .ensures,
+      c .before .before .all-proper .ensures,
+      c .before .all-at-most2 .ensures,
+      c .all-proper2 .ensures,
       at .before .before .map-at .ensures,
       at .before .locks-at .ensures,
       at .blocks-at .ensures,

@@ -15,6 +15,7 @@ use meaning::Kind;
 use meaning::Pass;
 use meaning::Pass::Leave;
 use meaning::Reg;
+use meaning::SETS;
 use meaning::Thread;
 use meaning::Update;
 use meaning::Update::Keep;
@@ -174,9 +175,6 @@ pub fn block(b: Reg, r: Thread) -> u32
 }
 
 // ---- readers or a writer: the lock of a number, the owner of a block
-
-// Such a word is a set of 16 bits, a bit for each reading thread, and this times the word of the writing one.
-const SETS: u32 = 65536;
 
 // What thread t adds to the word.
 pub fn mark(k: Kind, t: u32) -> u32

@@ -71,17 +71,20 @@ formats t n p d number = record { t = t; n = n; p = p; d = d; number = number; e
 abbrev pub accepted : ℕ → ℕ → ℕ → ℕ → List Exchange → Case
 accepted t n p d exchanges = record { t = t; n = n; p = p; d = d; number = WENT; exchanges = exchanges; end = anything }
 
-abbrev pub onTheLast : ℕ → List Exchange → List Exchange
-onTheLast value rest = record { call = step 0; number = FINISHED; value = value } ∷ rest
+-- thread t begins an operation, goes so many steps, and ends with a value
+abbrev pub begins : ℕ → ℕ → ℕ → ℕ → List Exchange → List Exchange
+begins t op n c rest = record { call = begin t op n c; number = WENT; value = 0 } ∷ rest
 
-abbrev pub goes : ℕ → List Exchange → List Exchange
-goes zero rest = rest
-goes (suc k) rest = record { call = step 0; number = WENT; value = 0 } ∷ goes k rest
+abbrev pub goes : ℕ → ℕ → List Exchange → List Exchange
+goes zero t rest = rest
+goes (suc k) t rest = record { call = step t; number = WENT; value = 0 } ∷ goes k t rest
+
+abbrev pub ends : ℕ → ℕ → List Exchange → List Exchange
+ends t value rest = record { call = step t; number = FINISHED; value = value } ∷ rest
 
 -- an operation of thread 0, begun and stepped to its end: so many steps, the last with the value
 abbrev pub toItsEnd : ℕ → ℕ → ℕ → ℕ → ℕ → List Exchange → List Exchange
-toItsEnd op n c count value rest =
-    record { call = begin 0 op n c; number = WENT; value = 0 } ∷ goes (count - 1) (onTheLast value rest)
+toItsEnd op n c count value rest = begins 0 op n c (goes (count - 1) 0 (ends 0 value rest))
 
 -- the operations of the case with 2 numbers and 3 blocks, each to its end, before the levelling
 abbrev pub usedTwo : List Exchange → List Exchange

@@ -4,32 +4,22 @@
 use mathlib.Core.Path.{_≡_, refl}
 use mathlib.Core.List.{List, [], _∷_, _++_, map}
 use Prim.Native.Nat.{ℕ, zero, suc}
-use Rattle.meaning.specs.Numbers.{WENT, FINISHED, BLOCKED}
+use lib.ListN.{replicate, set}
+use Rattle.meaning.specs.Numbers.{WENT, BLOCKED}
 use Rattle.meaning.specs.Programs.{WRITE, READ, LEVEL}
 use Rattle.meaning.specs.Store.{Store, fresh}
-use Rattle.meaning.specs.Call.{begin, step, callStore}
+use Rattle.meaning.specs.Call.{Entry, begin, step, callStore}
 use Rattle.meaning.specs.Schedule.{run, replies}
 use Rattle.meaning.specs.Demands.{times}
 use Rattle.store.specs.Area.{bytes, wellFormed}
 use Rattle.store.specs.Calls.{stepArea}
-use Rattle.cases.specs.Cases.{Exchange, Case, exactly, expected, happens, accepted, toItsEnd, usedTwo}
+use Rattle.cases.specs.Cases.{Exchange, Case, exactly, expected, happens, accepted, begins, goes, ends, toItsEnd, usedTwo}
 
 -- ---- how cases are written
 
--- thread t begins an operation
-abbrev pub begins : ℕ → ℕ → ℕ → ℕ → List Exchange → List Exchange
-begins t op n c rest = record { call = begin t op n c; number = WENT; value = 0 } ∷ rest
-
--- it goes on so many steps, waits at one, and ends with a value
-abbrev pub goes : ℕ → ℕ → List Exchange → List Exchange
-goes zero t rest = rest
-goes (suc k) t rest = record { call = step t; number = WENT; value = 0 } ∷ goes k t rest
-
+-- thread t waits
 abbrev pub waits : ℕ → List Exchange → List Exchange
 waits t rest = record { call = step t; number = BLOCKED; value = 0 } ∷ rest
-
-abbrev pub ends : ℕ → ℕ → List Exchange → List Exchange
-ends t value rest = record { call = step t; number = FINISHED; value = value } ∷ rest
 
 -- ---- grown from fresh
 
@@ -89,23 +79,35 @@ sixteen =
     run callStore (fresh 16 1 2 1)
     (begin 0 WRITE 0 7 ∷ times 16 (step 0) (eachDoes (λ t rest. begin t READ 0 0 ∷ rest) 16 (eachDoes (λ t. times 3 (step t)) 16 [])))
 
--- all are in the lock's set and in the block's; then one after the other ends, with 7, and nobody is there any more
+-- then one after the other goes on to its end
+abbrev pub ending : List Entry
+ending = eachDoes (λ t. times 3 (step t)) 16 []
+
+-- the number's lock and its block's owner
+abbrev pub holders : Store → List ℕ
+holders s = s .locks 0 ∷ s .own 0 ∷ []
+
+-- all are in both sets, all end with 7, and then nobody is there
 pub sixteen-listen :
-    (sixteen .locks 0 ∷ sixteen .own 0 ∷ [] ≡ 65535 ∷ 65535 ∷ [])
-    × (replies callStore sixteen (eachDoes (λ t. times 3 (step t)) 16 []) ≡ eachDoes (λ t rest. (0, 0) ∷ (0, 0) ∷ (1, 7) ∷ rest) 16 [])
-sixteen-listen = (refl, refl)
+    (holders sixteen ≡ 65535 ∷ 65535 ∷ [])
+    × (replies callStore sixteen ending ≡ eachDoes (λ t rest. (0, 0) ∷ (0, 0) ∷ (1, 7) ∷ rest) 16 [])
+    × (holders (run callStore sixteen ending) ≡ 0 ∷ 0 ∷ [])
+sixteen-listen = (refl, refl, refl)
 
--- each thread's own words: the number's lock after R1 of a thread alone, and after W2
-abbrev pub lockAfter : ℕ → ℕ → ℕ → ℕ
-lockAfter op count t = run callStore (fresh 16 1 2 1) (begin t op 0 7 ∷ times count (step t) []) .locks 0
+-- each of sixteen threads by itself, the last one first: what stands in the number's lock and in its block's owner after R3 of a read, and after W13 of
+-- a second write
+abbrev pub heldAt : ℕ → ℕ → ℕ → List ℕ
+heldAt op count t =
+    holders (run callStore (fresh 16 1 2 1) (begin 0 WRITE 0 7 ∷ times 16 (step 0) (begin t op 0 7 ∷ times count (step t) [])))
 
-pub own-words :
-    eachDoes (λ t rest. lockAfter READ 1 t ∷ rest) 16 [] ++ eachDoes (λ t rest. lockAfter WRITE 2 t ∷ rest) 16 []
-    ≡ 32768 ∷ 16384 ∷ 8192 ∷ 4096 ∷ 2048 ∷ 1024 ∷ 512 ∷ 256 ∷ 128 ∷ 64 ∷ 32 ∷ 16 ∷ 8 ∷ 4 ∷ 2 ∷ 1
+pub words-of-threads :
+    eachDoes (λ t rest. heldAt READ 3 t ∷ rest) 16 [] ++ eachDoes (λ t rest. heldAt WRITE 5 t ∷ rest) 16 []
+    ≡ map (λ w. w ∷ w ∷ [])
+    (32768 ∷ 16384 ∷ 8192 ∷ 4096 ∷ 2048 ∷ 1024 ∷ 512 ∷ 256 ∷ 128 ∷ 64 ∷ 32 ∷ 16 ∷ 8 ∷ 4 ∷ 2 ∷ 1
     ∷ 1048576 ∷ 983040 ∷ 917504 ∷ 851968 ∷ 786432 ∷ 720896 ∷ 655360 ∷ 589824
     ∷ 524288 ∷ 458752 ∷ 393216 ∷ 327680 ∷ 262144 ∷ 196608 ∷ 131072 ∷ 65536
-    ∷ []
-own-words = refl
+    ∷ [])
+words-of-threads = refl
 
 -- ---- made by hand
 
@@ -123,21 +125,21 @@ standing op line lock own =
     ∷ [])
 
 -- what its step gives
-abbrev pub steps : ℕ → ℕ → ℕ → ℕ → ℕ
-steps op line lock own = stepArea (standing op line lock own) 0 .number
+abbrev pub gives : ℕ → ℕ → ℕ → ℕ → ℕ
+gives op line lock own = stepArea (standing op line lock own) 0 .number
 
 -- a read at R1, R3, R4, R5 and R6: 0 for WENT, 1 for FINISHED, 2 for BLOCKED, 16 for FAULT
 pub reader-made :
     -- R1: nobody; another reads; it has its own place, alone and beside another; it writes; another writes
-    steps 2 1 0 0 ∷ steps 2 1 2 0 ∷ steps 2 1 1 0 ∷ steps 2 1 3 0 ∷ steps 2 1 65536 0 ∷ steps 2 1 131072 0
+    gives 2 1 0 0 ∷ gives 2 1 2 0 ∷ gives 2 1 1 0 ∷ gives 2 1 3 0 ∷ gives 2 1 65536 0 ∷ gives 2 1 131072 0
     -- R3: the same of the block
-    ∷ steps 2 3 1 0 ∷ steps 2 3 1 2 ∷ steps 2 3 1 1 ∷ steps 2 3 1 3 ∷ steps 2 3 1 65536 ∷ steps 2 3 1 131072
+    ∷ gives 2 3 1 0 ∷ gives 2 3 1 2 ∷ gives 2 3 1 1 ∷ gives 2 3 1 3 ∷ gives 2 3 1 65536 ∷ gives 2 3 1 131072
     -- R4: it may read where it has a place or writes
-    ∷ steps 2 4 1 0 ∷ steps 2 4 1 2 ∷ steps 2 4 1 1 ∷ steps 2 4 1 3 ∷ steps 2 4 1 65536 ∷ steps 2 4 1 131072
+    ∷ gives 2 4 1 0 ∷ gives 2 4 1 2 ∷ gives 2 4 1 1 ∷ gives 2 4 1 3 ∷ gives 2 4 1 65536 ∷ gives 2 4 1 131072
     -- R5: to write is not enough
-    ∷ steps 2 5 1 0 ∷ steps 2 5 1 2 ∷ steps 2 5 1 1 ∷ steps 2 5 1 3 ∷ steps 2 5 1 65536 ∷ steps 2 5 1 131072
+    ∷ gives 2 5 1 0 ∷ gives 2 5 1 2 ∷ gives 2 5 1 1 ∷ gives 2 5 1 3 ∷ gives 2 5 1 65536 ∷ gives 2 5 1 131072
     -- R6: nor is it here
-    ∷ steps 2 6 0 0 ∷ steps 2 6 2 0 ∷ steps 2 6 1 0 ∷ steps 2 6 3 0 ∷ steps 2 6 65536 0 ∷ steps 2 6 131072 0
+    ∷ gives 2 6 0 0 ∷ gives 2 6 2 0 ∷ gives 2 6 1 0 ∷ gives 2 6 3 0 ∷ gives 2 6 65536 0 ∷ gives 2 6 131072 0
     ∷ []
     ≡ 0 ∷ 0 ∷ 2 ∷ 2 ∷ 2 ∷ 2
     ∷ 0 ∷ 0 ∷ 16 ∷ 16 ∷ 16 ∷ 16
@@ -151,13 +153,13 @@ reader-made = refl
 -- a write at W2, W13, W14, W15 and W16, with the same words
 pub writer-made :
     -- W2: anybody bars it
-    steps 1 2 0 0 ∷ steps 1 2 2 0 ∷ steps 1 2 1 0 ∷ steps 1 2 3 0 ∷ steps 1 2 65536 0 ∷ steps 1 2 131072 0
+    gives 1 2 0 0 ∷ gives 1 2 2 0 ∷ gives 1 2 1 0 ∷ gives 1 2 3 0 ∷ gives 1 2 65536 0 ∷ gives 1 2 131072 0
     -- W13: the same of the block
-    ∷ steps 1 13 65536 0 ∷ steps 1 13 65536 2 ∷ steps 1 13 65536 1 ∷ steps 1 13 65536 3 ∷ steps 1 13 65536 65536 ∷ steps 1 13 65536 131072
+    ∷ gives 1 13 65536 0 ∷ gives 1 13 65536 2 ∷ gives 1 13 65536 1 ∷ gives 1 13 65536 3 ∷ gives 1 13 65536 65536 ∷ gives 1 13 65536 131072
     -- W14, W15 and W16: a place in the set is not enough
-    ∷ steps 1 14 65536 0 ∷ steps 1 14 65536 2 ∷ steps 1 14 65536 1 ∷ steps 1 14 65536 3 ∷ steps 1 14 65536 65536 ∷ steps 1 14 65536 131072
-    ∷ steps 1 15 65536 0 ∷ steps 1 15 65536 2 ∷ steps 1 15 65536 1 ∷ steps 1 15 65536 3 ∷ steps 1 15 65536 65536 ∷ steps 1 15 65536 131072
-    ∷ steps 1 16 0 0 ∷ steps 1 16 2 0 ∷ steps 1 16 1 0 ∷ steps 1 16 3 0 ∷ steps 1 16 65536 0 ∷ steps 1 16 131072 0
+    ∷ gives 1 14 65536 0 ∷ gives 1 14 65536 2 ∷ gives 1 14 65536 1 ∷ gives 1 14 65536 3 ∷ gives 1 14 65536 65536 ∷ gives 1 14 65536 131072
+    ∷ gives 1 15 65536 0 ∷ gives 1 15 65536 2 ∷ gives 1 15 65536 1 ∷ gives 1 15 65536 3 ∷ gives 1 15 65536 65536 ∷ gives 1 15 65536 131072
+    ∷ gives 1 16 0 0 ∷ gives 1 16 2 0 ∷ gives 1 16 1 0 ∷ gives 1 16 3 0 ∷ gives 1 16 65536 0 ∷ gives 1 16 131072 0
     ∷ []
     ≡ 0 ∷ 2 ∷ 2 ∷ 2 ∷ 2 ∷ 2
     ∷ 0 ∷ 16 ∷ 16 ∷ 16 ∷ 16 ∷ 16
@@ -170,30 +172,45 @@ writer-made = refl
 
 -- ---- well formed or not
 
--- T threads, one number and two blocks, all threads idle, with these words as the number's lock and the second block's owner
+-- T threads, two numbers and three blocks, all threads idle and all else 0, but for this word at this place behind the threads
 abbrev pub idlers : ℕ → List ℕ → List ℕ
 idlers zero rest = rest
 idlers (suc t) rest = 0 ∷ 0 ∷ 0 ∷ 0 ∷ 0 ∷ 0 ∷ 0 ∷ idlers t rest
 
 abbrev pub resting : ℕ → ℕ → ℕ → List ℕ
-resting t lock own =
-    bytes (t ∷ 1 ∷ 2 ∷ 1 ∷ 0 ∷ 0 ∷ idlers t (0 ∷ lock ∷ 0 ∷ 0 ∷ 0 ∷ 0 ∷ 0 ∷ 0 ∷ 0 ∷ own ∷ []))
+resting t at w = bytes (t ∷ 2 ∷ 3 ∷ 1 ∷ 0 ∷ 0 ∷ idlers t (set (replicate 16 0) at w))
 
--- a step of thread 0 with the word as a lock, and with it as an owner: 13, IDLE, where it is well formed, and else 10, SHAPE
-abbrev pub taken : ℕ → ℕ → List ℕ
-taken t w = stepArea (resting t w 0) 0 .number ∷ stepArea (resting t 0 w) 0 .number ∷ []
+-- a step of thread 0 with the word at each of these places: 13, IDLE, where it is well formed, and else 10, SHAPE
+abbrev pub taken : ℕ → List ℕ → ℕ → List ℕ
+taken t places w = map (λ at. stepArea (resting t at w) 0 .number) places
 
 pub words-formed :
-    -- T=2: nobody, each set, each writer; bit 2; thread 2 writes; a reader beside a writer
-    map (taken 2) (0 ∷ 1 ∷ 2 ∷ 3 ∷ 65536 ∷ 131072 ∷ 4 ∷ 196608 ∷ 65537 ∷ 131073 ∷ [])
+    -- T=2, the last lock and the last owner: nobody, each set, each writer; bit 2; thread 2 writes; a reader beside a writer
+    map (taken 2 (3 ∷ 15 ∷ [])) (0 ∷ 1 ∷ 2 ∷ 3 ∷ 65536 ∷ 131072 ∷ 4 ∷ 196608 ∷ 65537 ∷ 131073 ∷ [])
     ≡ (13 ∷ 13 ∷ []) ∷ (13 ∷ 13 ∷ []) ∷ (13 ∷ 13 ∷ []) ∷ (13 ∷ 13 ∷ []) ∷ (13 ∷ 13 ∷ []) ∷ (13 ∷ 13 ∷ [])
     ∷ (10 ∷ 10 ∷ []) ∷ (10 ∷ 10 ∷ []) ∷ (10 ∷ 10 ∷ []) ∷ (10 ∷ 10 ∷ []) ∷ []
 unfolding wellFormed
 words-formed = refl
 
+-- each of the two locks and of the three owners is looked at
+pub each-formed : taken 2 (2 ∷ 3 ∷ 7 ∷ 11 ∷ 15 ∷ []) 3 ∷ taken 2 (2 ∷ 3 ∷ 7 ∷ 11 ∷ 15 ∷ []) 65537 ∷ []
+    ≡ (13 ∷ 13 ∷ 13 ∷ 13 ∷ 13 ∷ []) ∷ (10 ∷ 10 ∷ 10 ∷ 10 ∷ 10 ∷ []) ∷ []
+unfolding wellFormed
+each-formed = refl
+
 pub words-formed-16 :
     -- T=16: all sixteen read; the last writes; thread 16 does; the last bit beside a writer; the largest word
-    map (taken 16) (65535 ∷ 1048576 ∷ 1114112 ∷ 98304 ∷ 4294967295 ∷ [])
+    map (taken 16 (3 ∷ 15 ∷ [])) (65535 ∷ 1048576 ∷ 1114112 ∷ 98304 ∷ 4294967295 ∷ [])
     ≡ (13 ∷ 13 ∷ []) ∷ (13 ∷ 13 ∷ []) ∷ (10 ∷ 10 ∷ []) ∷ (10 ∷ 10 ∷ []) ∷ (10 ∷ 10 ∷ []) ∷ []
 unfolding wellFormed
 words-formed-16 = refl
+
+-- H and the headers' owner at T=2, as in 01: thread 1 has it; thread 2; the word with which thread 0 would write a block
+abbrev pub headed : ℕ → ℕ → List ℕ
+headed lock owner = bytes (2 ∷ 1 ∷ 2 ∷ 1 ∷ lock ∷ owner ∷ idlers 2 (replicate 10 0))
+
+pub H-formed :
+    map (λ w. stepArea (headed w 0) 0 .number ∷ stepArea (headed 0 w) 0 .number ∷ []) (2 ∷ 3 ∷ 65536 ∷ [])
+    ≡ (13 ∷ 13 ∷ []) ∷ (10 ∷ 10 ∷ []) ∷ (10 ∷ 10 ∷ []) ∷ []
+unfolding wellFormed
+H-formed = refl

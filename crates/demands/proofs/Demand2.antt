@@ -8,7 +8,7 @@
 --  * area-in-real-time: the same of all operations, levellings too.
 --  * area-read-gives: a read that has finished gave the word of the last write of its number before it in that order, and 0 if an
 --    unmap came after that write or if there is none.
---  * area-manager-holds: what a number's block holds is what the manager holds of it, wherever no writer and no unmapper has its lock;
+--  * area-manager-holds: what a number's block holds is what the manager holds of it, wherever no write and no unmap has its lock;
 --    so where all threads are idle, of every number (area-manager-holds-rest).
 --  * area-manager-maps, area-manager-maps-rest: there a number is mapped exactly where it is in the manager's mapped set. A read tells no
 --    difference between a written 0 and an unmapped number; the map does.
@@ -22,7 +22,7 @@ use Prim.Native.Nat.{ℕ, _<_, _≤_}
 use native.Mathlib.Omega.{arith}
 use lib.Dec.{eqb}
 use lib.ListN.{length, getD}
-use Rattle.meaning.specs.declared.Kind.{Kind}
+use Rattle.meaning.specs.declared.Kind.the-variants.{Writer}
 use Rattle.meaning.specs.Store.{Store}
 use Rattle.meaning.specs.Holding.{free, held, named}
 use Rattle.meaning.specs.Programs.{WRITE, READ}
@@ -104,11 +104,11 @@ module _ (a : List ℕ) (f : Formatted a) (w : List Entry) (x : AllWords w) wher
 
   -- of number k: whether it is mapped, and what its block holds
   area-keeps : (k : ℕ) →
-      ((κ : Kind) (v : ℕ) → held κ v (decode (run callArea a w) .locks k) ≡ true → leavesAlone (decode (run callArea a w) .thread v) ≡ true) →
+      ((v : ℕ) → held Writer v (decode (run callArea a w) .locks k) ≡ true → leavesAlone (decode (run callArea a w) .thread v) ≡ true) →
       status (decode (run callArea a w)) k ≡ asked k (obeyAll initial (order callArea decode a w))
   area-keeps k =
       areas-follow a f w x
-      (λ h. ((κ : Kind) (v : ℕ) → held κ v (h .left .locks k) ≡ true → leavesAlone (h .left .thread v) ≡ true) →
+      (λ h. ((v : ℕ) → held Writer v (h .left .locks k) ≡ true → leavesAlone (h .left .thread v) ≡ true) →
       status (h .left) k ≡ asked k (obeyAll initial (h .order)))
       (λ t n p d limits. manager-status t n p d limits w k)
 
@@ -120,13 +120,13 @@ module _ (a : List ℕ) (f : Formatted a) (w : List Entry) (x : AllWords w) wher
       (λ t n p d limits. manager-status-rest t n p d limits w)
 
   pub area-manager-holds : (k : ℕ) →
-      ((κ : Kind) (v : ℕ) → held κ v (decode (run callArea a w) .locks k) ≡ true → leavesAlone (decode (run callArea a w) .thread v) ≡ true) →
+      ((v : ℕ) → held Writer v (decode (run callArea a w) .locks k) ≡ true → leavesAlone (decode (run callArea a w) .thread v) ≡ true) →
       kept (decode (run callArea a w)) k ≡ ebmRead k (obeyAll initial (order callArea decode a w))
   area-manager-holds k alone = ap (λ x. x .content) (area-keeps k alone)
 
   -- a number that 0 was written to is mapped, and an unmapped one isn't: 01, "Sizes and the store area" and "The machine"
   pub area-manager-maps : (k : ℕ) →
-      ((κ : Kind) (v : ℕ) → held κ v (decode (run callArea a w) .locks k) ≡ true → leavesAlone (decode (run callArea a w) .thread v) ≡ true) →
+      ((v : ℕ) → held Writer v (decode (run callArea a w) .locks k) ≡ true → leavesAlone (decode (run callArea a w) .thread v) ≡ true) →
       isMapped (decode (run callArea a w)) k ≡ obeyAll initial (order callArea decode a w) .mapped k
   area-manager-maps k alone = ap (λ x. x .mapped) (area-keeps k alone)
 

@@ -1,7 +1,9 @@
 -- DEMAND 3, first half, over areas of bytes: two threads of an area grown from fresh that can both step, and whose next lines don't take the
 -- same lock unless both take it for reading, may step in either order. Each gives the same number and value, and the bytes at the end are the same.
--- So two threads may that are about to take a number's lock for reading. Where it is met in the middle of two operations, and that it isn't so for
--- the same lock, is computed in Reached.
+--  * grown-either-order: that.
+--  * grown-readers-pass: so may two threads that are about to take a number's lock for reading.
+--  * grown-same-lock-blocks: the exception is needed. Where it holds, whoever comes second is BLOCKED.
+-- Where either order is met in the middle of two operations is computed in Reached.
 -- Assumes nothing.
 use mathlib.Core.Path.{_≡_, refl, sym, _∙_, subst}
 use mathlib.Core.Bool.{true, false, not, _&&_, _||_}
@@ -10,10 +12,11 @@ use Prim.Native.Nat.{ℕ, zero, suc, _≤_}
 use native.Mathlib.Omega.{arith}
 use lib.Dec.{eqb, ltb}
 use borrow.Author.Tests.{not-true, ltb-true, le-leb, eqb-true}
-use Rattle.meaning.specs.declared.Kind.the-variants.{Reader}
+use Rattle.meaning.specs.declared.Kind.{Kind}
+use Rattle.meaning.specs.declared.Kind.the-variants.{Reader, Writer}
 use Rattle.meaning.specs.declared.Act.the-variants.{TakeH, TakeN}
 use Rattle.meaning.specs.declared.Thread.{Thread}
-use Rattle.meaning.specs.Numbers.{FINISHED}
+use Rattle.meaning.specs.Numbers.{FINISHED, BLOCKED}
 use Rattle.meaning.specs.Limits.{mostWord, within}
 use Rattle.meaning.specs.Store.{Store}
 use Rattle.meaning.specs.Programs.{actAt}
@@ -24,7 +27,7 @@ use Rattle.meaning.proofs.Base.Sets.{bothRead}
 use Rattle.meaning.proofs.Invariant.{takesH, takesN, kind}
 use Rattle.meaning.proofs.Invariant.Keeping.{standing}
 use Rattle.meaning.proofs.Progress.{CanStep as CanStepStore}
-use Rattle.meaning.proofs.EitherOrder.{sameTake, either-order}
+use Rattle.meaning.proofs.EitherOrder.{sameTake, either-order, same-H-blocks, same-N-blocks}
 use Rattle.store.specs.Area.{decode}
 use Rattle.store.specs.Calls.{stepArea, Grown}
 use Rattle.store.proofs.Range.{Good, decode-injective, good-ranged}
@@ -129,3 +132,23 @@ pub grown-readers-pass : (a : List ℕ) → Grown a → (t u : ℕ) → (t ≡ u
     nextAct (decode a .thread t) ≡ TakeN Reader → nextAct (decode a .thread u) ≡ TakeN Reader → EitherOrder a t u
 grown-readers-pass a grown t u apart ct cu e e′ =
     grown-either-order a grown t u apart ct cu (readers-take (decode a .thread t) (decode a .thread u) e e′)
+
+-- ---- the exception is needed
+
+not-both : (κ κ′ : Kind) → ((κ ≡ Reader) × (κ′ ≡ Reader) → ⊥) → bothRead κ κ′ ≡ false
+not-both Reader Reader x = absurd (x (refl, refl))
+not-both Reader Writer x = refl
+not-both Writer κ′ x = refl
+
+-- over stores
+same-lock-blocks : (s : Store) (t u : ℕ) → (t ≡ u → ⊥) → CanStepStore s t → CanStepStore s u → SameLock (s .thread t) (s .thread u) →
+    callStore (callStore s (step t) .after) (step u) .number ≡ BLOCKED
+same-lock-blocks s t u apart ct cu (both-H e e′) = same-H-blocks s t u apart ct cu e e′
+same-lock-blocks s t u apart ct cu (both-N κ κ′ e e′ n x) = same-N-blocks s t u apart ct cu κ κ′ e e′ n (not-both κ κ′ x)
+
+pub grown-same-lock-blocks : (a : List ℕ) → Grown a → (t u : ℕ) → (t ≡ u → ⊥) → CanStep a t → CanStep a u →
+    SameLock (decode a .thread t) (decode a .thread u) → stepArea (stepArea a t .after) u .number ≡ BLOCKED
+grown-same-lock-blocks a grown t u apart ct cu one =
+    let g = grown-good a grown in
+    after-both a g t u (can-word a g t ct) (can-word a g u cu) .number
+    ∙ same-lock-blocks (decode a) t u apart (can-decoded a g t ct) (can-decoded a g u cu) one

@@ -389,7 +389,7 @@ lands (MapTo P) s t r = search (inl, arith)
 lands (MapTo Q) s t r = search (inl, arith)
 lands Unmap s t r = search (inl, arith)
 
--- so FAULT comes exactly where a need of specs/Needs fails, and BLOCKED exactly where a take's lock isn't free
+-- so FAULT comes exactly where a need of specs/Needs fails, and BLOCKED exactly where a take's lock doesn't let it in
 module _ (a : Act) (s : Store) (t : ℕ) (r : Thread) where
   pub faults-exactly : (perform a s t r ≡ Fault) ↔ (fails s t r (asks a) ≡ true)
   faults-exactly = (λ x. subst (Lands a s t r) x (lands a s t r) .0, faults (perform a s t r) (lands a s t r))

@@ -1,8 +1,8 @@
 -- Either order, over stores: two threads that can both step, and whose next lines don't take the same lock, unless both take it for reading, may
 -- step in either order. Each answers the same, and the store is the same at the end.
 -- What a step changes, its thread has what guards it (`Guards`), so two steps change no common word but where both come to one set or go from it,
--- which is adding and taking off; what a step looks at, its thread has what guards it too (tested at each line), so it comes to the same
--- after the other one.
+-- which is adding and taking off; what a step looks at, its thread has what guards it too, or a reader's place (tested at each line), so it comes to
+-- the same after the other one.
 -- Assumes nothing.
 use mathlib.Core.Path.{_≡_, refl, sym, ap, _∙_, subst, fun-ext}
 use mathlib.Core.Bool.{Bool, true, false, not, _&&_, _||_, or-true, and-comm}
@@ -13,26 +13,30 @@ use lib.Dec.{eqb, leb}
 use borrow.Author.Tests.{not-false, eqb-true, eqb-false, ne-eqb, lt-ltb}
 use Rattle.meaning.specs.declared.Kind.{Kind}
 use Rattle.meaning.specs.declared.Kind.the-variants.{Reader, Writer}
+use Rattle.meaning.specs.declared.Act.{Act}
+use Rattle.meaning.specs.declared.Act.the-variants.{TakeH, TakeN}
 use Rattle.meaning.specs.declared.Thread.{Thread}
 use Rattle.meaning.specs.declared.Word.{Word}
 use Rattle.meaning.specs.declared.Word.the-variants.{Stay, Become}
 use Rattle.meaning.specs.declared.Update.{Update}
 use Rattle.meaning.specs.declared.Update.the-variants.{Keep, Put}
 use Rattle.meaning.specs.declared.Pass.{Pass}
+use Rattle.meaning.specs.declared.Pass.the-variants.{Plus}
 use Rattle.meaning.specs.declared.Effect.{Effect}
 use Rattle.meaning.specs.declared.Verdict.{Verdict}
 use Rattle.meaning.specs.declared.Verdict.the-variants.{Blocked, Fault, Go, Done}
 use Rattle.meaning.specs.Table.{upd}
-use Rattle.meaning.specs.Numbers.{WENT, FINISHED}
+use Rattle.meaning.specs.Numbers.{WENT, FINISHED, BLOCKED}
 use Rattle.meaning.specs.Store.{Store, idle}
 use Rattle.meaning.specs.Holding.{free, by, heldBy, mark, held, admits}
 use Rattle.meaning.specs.Programs.{actAt}
-use Rattle.meaning.specs.Step.{verdict, become, put, came, apply}
+use Rattle.meaning.specs.Step.{onLock, onLocks, take, next, perform, verdict, become, put, came, apply}
 use Rattle.meaning.specs.Needs.{Asks, takes-H, takes-N, needs, no-line, asks, waits}
+use Rattle.meaning.specs.Schedule.{nextAct}
 use Rattle.meaning.specs.Call.{Reply, step, callStore, told, reply, isIdle}
 use Rattle.meaning.proofs.Base.Words.{same, eqb-swap, either-way, by-held, clash, and-left, and-right, by-other, held-once, held-not-free, upd-same, upd-other, upd-each}
 use Rattle.meaning.proofs.Base.Schedules.{replyOf, by-step}
-use Rattle.meaning.proofs.Base.Sets.{sameKind, kind-is, bothRead, held-mark, writer-alone, joins-admits, quits-admits}
+use Rattle.meaning.proofs.Base.Sets.{sameKind, kind-is, bothRead, held-mark, writer-alone, joins-admits, quits-admits, joins-bars}
 use Rattle.meaning.proofs.Invariant.{takesH, takesN, kind, takesLock, holdsH, ownsHeaders, ownsP, Passes, takes, gives-up, Joins, leaves-all, joins, quits, Becomes, Puts, Guards, GuardsMap, GuardsHeader, GuardsContent, GuardsWear, Inv}
 use Rattle.meaning.proofs.Invariant.Keeping.{reads-map, everyLine, everywhere, standing, p-owned, Moves, moves-inv, map-kept, header-kept, wear-kept, content-kept}
 use Rattle.meaning.proofs.Acts.{Sight, map-of-n, headers, all-wear, content-of-p, shape, Ready, was-ready, unfaulted, Same, SameSights, same-deed}
@@ -55,7 +59,7 @@ pub record Swaps (s : Store) (t u : ℕ) : Type 0 where
 
 -- ---- what a step looks at
 
--- the flag of a thread that has what guards it
+-- the flag of a thread that has what guards it, or reads
 abbrev guarded : Thread → Sight → Bool
 guarded r map-of-n = reads-map r
 guarded r headers = ownsHeaders r
@@ -73,7 +77,7 @@ taking r (takes-N κ) = takesN r && sameKind κ (kind r)
 taking r (needs l) = true
 taking r no-line = true
 
--- at each line, the thread has what guards the words that its act looks at, and is about to take the lock that the act takes
+-- at each line, the thread has what keeps writers from the words that its act looks at, and is about to take the lock that the act takes
 looks-everywhere : everyLine (λ op line. allGuarded (standing op line) (shape (actAt op line) .looks)) ≡ true
 looks-everywhere = refl
 
@@ -126,7 +130,7 @@ module _ (s : Store) (I : Inv s) (t : ℕ) (r′ : Thread) (e : Effect) (M : Mov
   content-alike : ownsP (s .thread u) ≡ true → put (e .content) (s .content) (s .thread u .p) ≡ s .content (s .thread u .p)
   content-alike l = content-kept s I t (s .thread t) e (M .guards) u apart (s .thread u .p) (p-owned (s .thread u) l)
 
-  -- a lock that u takes is still free
+  -- a lock that u takes still lets it in
   lock-free : takesH (s .thread u) ≡ true → free (s .lock) ≡ true → free (become (e .lock) (s .lock)) ≡ true
   lock-free l =
       free-kept (takesH (s .thread t) ≡ true) t (e .lock) (s .lock) (M .guards .lock) (λ z. clash (rw (z, l)) others)
@@ -137,7 +141,7 @@ module _ (s : Store) (I : Inv s) (t : ℕ) (r′ : Thread) (e : Effect) (M : Mov
       entry-admits-kept (λ κ k. takesLock κ (s .thread t) k ≡ true) t u apart (e .locks) (s .locks) (M .guards .locks) κ (s .thread u .n)
       (λ κ′ z. beside (s .thread t) (s .thread u) κ′ κ others z l)
 
-  -- so what its act looks at is the same, and what it takes still free
+  -- so what its act looks at is the same, and what it takes lets it in
   sight-alike : (x : Sight) → guarded (standing (s .thread u .op) (s .thread u .line)) x ≡ true →
       Same s (apply s t r′ e) (s .thread u) x
   sight-alike map-of-n = map-alike
@@ -405,3 +409,57 @@ either-order s I t u apart steps steps′ others =
           ∙ still-left s I t (g .becomes) (g .effect) M (g .below) u apart others k
           ∙ sym (ap (λ (x : Reply Store). x .after) t-second);
     }
+
+-- ---- the exception is needed: whoever comes second is blocked
+
+-- the effect of a take that goes
+take-effect : (lets : Bool) (r₁ : Thread) (e₁ : Effect) {v : Verdict} {n a : ℕ} {r : Thread} {e : Effect} → Goes v n a r e →
+    v ≡ take lets (next r₁ e₁) → (lets ≡ true) × (e ≡ e₁)
+take-effect true r₁ e₁ goes x = (refl, cc)
+take-effect true r₁ e₁ ends x = absurd (let z : _≡_ {A = ℕ} 0 1 = cc in omega arith)
+take-effect false r₁ e₁ goes x = absurd (let z : _≡_ {A = ℕ} 0 1 = cc in omega arith)
+take-effect false r₁ e₁ ends x = absurd (let z : _≡_ {A = ℕ} 0 1 = cc in omega arith)
+
+module _ (s : Store) (t u : ℕ) (apart : t ≡ u → ⊥) (steps : CanStep s t) (steps′ : CanStep s u) where
+  -- t's step, u's record, and the store that t leaves
+  abbrev g : Going s t
+  g = can-going s t steps
+
+  abbrev q : Thread
+  q = s .thread u
+
+  abbrev after-t : Store
+  after-t = left-by s t g
+
+  second-blocked : perform (nextAct q) after-t u q ≡ Blocked → callStore (callStore s (step t) .after) (step u) .number ≡ BLOCKED
+  second-blocked x =
+      let k = can-going s u steps′ in
+      let same-record : after-t .thread u ≡ q = upd-other (s .thread) t u (g .becomes) apart in
+      rw (going-reply s t g, lt-ltb u (s .threads) (k .below), same-record, k .busy, x)
+
+  pub same-H-blocks : nextAct (s .thread t) ≡ TakeH → nextAct q ≡ TakeH →
+      callStore (callStore s (step t) .after) (step u) .number ≡ BLOCKED
+  same-H-blocks e e′ =
+      let r = s .thread t in
+      let x = take-effect (free (s .lock)) r (onLock (by t)) (g .told′) (ap (λ (a : Act). perform a s t r) e) in
+      let lock : after-t .lock ≡ by t = ap (λ (y : Effect). become (y .lock) (s .lock)) (x .1) in
+      second-blocked
+      (ap (λ (a : Act). perform a after-t u q) e′
+      ∙ ap (λ w. take (free w) (next q (onLock (by u)))) lock
+      ∙ ap (λ b. take b (next q (onLock (by u)))) (held-not-free t (by t) (by-held t)))
+
+  pub same-N-blocks : (κ κ′ : Kind) → nextAct (s .thread t) ≡ TakeN κ → nextAct q ≡ TakeN κ′ → s .thread t .n ≡ q .n →
+      bothRead κ κ′ ≡ false → callStore (callStore s (step t) .after) (step u) .number ≡ BLOCKED
+  same-N-blocks κ κ′ e e′ n x =
+      let r = s .thread t in
+      let w = s .locks (r .n) in
+      let came-to = w + mark κ t in
+      let y = take-effect (admits κ t w) r (onLocks (Plus (r .n) (mark κ t))) (g .told′) (ap (λ (a : Act). perform a s t r) e) in
+      let word : after-t .locks (q .n) ≡ came-to =
+      ap (λ (z : Effect). put (came (s .locks) (z .locks)) (s .locks) (q .n)) (y .1)
+      ∙ subst (λ (k : ℕ). upd (s .locks) (r .n) came-to k ≡ came-to) n (upd-same (s .locks) (r .n) came-to) in
+      let goes-on = next q (onLocks (Plus (q .n) (mark κ′ u))) in
+      second-blocked
+      (ap (λ (a : Act). perform a after-t u q) e′
+      ∙ ap (λ w. take (admits κ′ u w) goes-on) word
+      ∙ ap (λ b. take b goes-on) (joins-bars κ κ′ t u w (y .0) x))

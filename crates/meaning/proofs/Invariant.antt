@@ -4,8 +4,8 @@
 -- which the thread stands: that line is its next. Lay it beside 01, "The lines": a range opens after the line that takes, owns, looks
 -- up or writes, and closes after the line that releases, lets go or writes again. What the rows are for:
 --  * holds and owns. The lock and owner words are these flags (`Holds`): a read holds and owns as a reader, all others as the writer. So a line
---    that releases or lets go has what it needs, a line that owns is let in (whoever could bar it would have a lock or owner that this thread
---    has, and not beside it), and nobody waits for itself.
+--    that releases or lets go has what it needs, a line that owns is let in (whoever barred it would have a lock or the headers together with this
+--    thread, where only one can), and nobody waits for itself.
 --  * about to take. Why a thread waits, and which two steps can't be swapped (EitherOrder).
 --  * n unmapped, n on p, n on q. What was looked up at W3, R2 and U3, or read off a header at L5, is still so when it is used.
 --  * p free, q free, p headed, q headed. A content line needs a header; a header is written where none is, so that no number has two
@@ -15,8 +15,8 @@
 --  * chosen now, c of p, q has c, c of n. What levelling chose and copied, a write wrote and a read read is still there: for what an operation
 --    leaves and answers, not for demand 1.
 --  * unset. A register that no line has set is as begin left it, so that the lines before the last lock can be run again.
--- GUARDS says which lock or owner a thread has when it changes a word. A thread that knows something of a word has what guards that
--- word, so the word stays as it is while others step: no two lines and no two acts are ever compared.
+-- GUARDS says which lock or owner a thread has when it changes a word. A thread that knows something of a word has what guards that word, or a
+-- reader's place beside which nobody can have it, so the word stays as it is while others step: no two lines and no two acts are ever compared.
 -- MAP AND HEADERS: an entry of the map points to a block, and its header back to the number, at all times (`Agrees`); a header points to
 -- a number that is mapped to its block, unless that block is astray (`mapped`). They agree where the headers have no owner.
 --

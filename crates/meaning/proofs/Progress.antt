@@ -28,8 +28,8 @@ use Rattle.meaning.specs.Schedule.{run, Grown, formatted, called}
 use Rattle.meaning.proofs.Base.Words.{either-way, clash, and-left, none-held, held-by, held-below, naming-not-none}
 use Rattle.meaning.proofs.Base.Sets.{sameKind, nobody-held, none-proper, unlet-not-free, holder-found}
 use Rattle.meaning.proofs.Invariant.{kind, holdsH, holdsN, ownsHeaders, Inv}
-use Rattle.meaning.proofs.Invariant.Keeping.{moves-inv}
-use Rattle.meaning.proofs.Invariant.Sharing.{limits-numbers-blocks, few}
+use Rattle.meaning.proofs.Invariant.Keeping.{limits-say, moves-inv}
+use Rattle.meaning.proofs.Invariant.Sharing.{few}
 use Rattle.meaning.proofs.Lines.{Waits, for-H, for-N, Fine, facts-idle}
 use Rattle.meaning.proofs.Lines.EveryLine.{idle-is, fine}
 use Rattle.meaning.proofs.Progress.Called.{CallCases, stays, opens, goes, ends, call-cases}
@@ -38,7 +38,7 @@ use Rattle.meaning.proofs.Progress.Called.{CallCases, stays, opens, goe
 
 pub inv-fresh : (t n p d : ℕ) → inLimits t n p d ≡ true → Inv (fresh t n p d)
 inv-fresh t n p d l =
-    let sizes = limits-numbers-blocks t n p d l in
+    let sizes = limits-say t n p d l in
     record {
       limits = l;
       stands = λ v. inl refl;
@@ -46,7 +46,7 @@ inv-fresh t n p d l =
       holds = λ v. search (none-held, nobody-held);
       locks = λ k. none-proper t;
       own = λ m. none-proper t;
-      facts = λ v. facts-idle (fresh t n p d) (sizes .1) (sizes .0);
+      facts = λ v. facts-idle (fresh t n p d) (sizes .2) (sizes .1);
       agrees =
           record {
             headed = λ k m e. naming-not-none m none e refl;

@@ -1,9 +1,10 @@
--- Lock and owner words, and the words that name a block or a number. 01, "Sizes and the store area": 0 says
--- that nobody has it, that nothing is mapped, that the block is free; any other word is one more than a thread, a block or a logical number.
--- So are H and the headers' owner; the lock of a number and the owner of a block have readers or a writer (02, §3).
--- No word is taken apart outside this file.
-use mathlib.Core.Bool.{Bool, not, _&&_, _||_}
-use Prim.Native.Nat.{ℕ, _+_, _-_, _*_, _/_, _%_, _^_}
+-- Lock and owner words, and the words that name a block or a number. 01, "Sizes and the store area": 0 says that nobody has it, that nothing is
+-- mapped, that the block is free; any other word is one more than a thread, a block or a logical number. But the lock of a number and the owner
+-- of a block have readers or a writer (02, §3). No word is taken apart outside this file.
+use mathlib.Core.Path.{_≡_}
+use mathlib.Core.Bool.{Bool, true, not, _&&_, _||_}
+use mathlib.Core.Logic.{_⊎_}
+use Prim.Native.Nat.{ℕ, _+_, _-_, _*_, _/_, _%_, _^_, _<_, _≤_}
 use lib.Dec.{eqb, ltb, leb}
 use Rattle.meaning.specs.declared.Kind.{Kind}
 use Rattle.meaning.specs.declared.Kind.the-variants.{Reader, Writer}
@@ -15,7 +16,7 @@ none = 0
 abbrev pub free : ℕ → Bool
 free w = eqb w none
 
--- the word of what thread t holds or owns
+-- H or the headers' owner, where thread t has it
 abbrev pub by : ℕ → ℕ
 by t = t + 1
 
@@ -44,6 +45,13 @@ member t w = eqb (w / 2 ^ t % 2) 1
 -- well formed, of T threads: a set of threads below T, or nobody reads and a thread below T writes, or nobody does
 abbrev pub proper : ℕ → ℕ → Bool
 proper threads w = ltb w (2 ^ threads) || eqb (w % sets) 0 && leb (w / sets) threads
+
+-- the same, of the word's two parts: no readers and a writer together, no member and no writer that isn't below T. That `proper` says this is proved
+-- (`proper-exactly` of proofs/Base/Sets)
+pub record InParts (threads w : ℕ) : Type 0 where
+  pub not-both : (w % sets ≡ 0) ⊎ (w / sets ≡ 0)
+  pub members : (t : ℕ) → member t (w % sets) ≡ true → t < threads
+  pub writes : w / sets ≤ threads
 
 -- thread t has its place in the set; thread t is the writer
 abbrev pub held : Kind → ℕ → ℕ → Bool

@@ -7,6 +7,7 @@ use lib.Dec.{leb}
 abbrev pub least : ℕ
 least = 1
 
+-- a set of readers has a bit for each thread, and 16 bits (Holding)
 abbrev pub mostThreads : ℕ
 mostThreads = 16
 

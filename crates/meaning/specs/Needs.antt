@@ -1,4 +1,5 @@
--- What a line needs, and what it waits for: 01, the paragraph "A line's needs", and the row BLOCKED of the table of numbers, for each act.
+-- What a line needs, and what it waits for: 01, the paragraph "A line's needs", and the row BLOCKED of the table of numbers, with readers and a
+-- writer as 02, §3, has them, for each act.
 -- `perform` of Step doesn't use this page. That FAULT and BLOCKED come exactly where it says is proved of `perform` (proofs/Acts), and of
 -- areas (`refusals` of the crate demands).
 use mathlib.Core.Bool.{Bool, true, false, not, _&&_, _||_}
@@ -63,7 +64,7 @@ abbrev pub asks : Act → Asks
 -- a take: that nobody has the lock, this thread included; for a reader's, that nobody writes and this thread has no place in the set
 asks TakeH = takes-H
 asks (TakeN κ) = takes-N κ
--- a release: that this thread holds the lock, as the kind that it took
+-- a release: that this thread holds the lock, as the line's kind
 asks ReleaseH = needs (holds-H ∷ [])
 asks (FinishH a) = needs (holds-H ∷ [])
 asks ReleaseN = needs (holds-N Writer ∷ [])
@@ -71,7 +72,7 @@ asks (FinishN κ a) = needs (holds-N κ ∷ [])
 -- owning: that there is no owner; for a reader, that nobody writes and this thread has no place in the set
 asks OwnHeaders = needs (unowned-headers ∷ [])
 asks (Own κ b) = needs (ownable κ b ∷ [])
--- letting go: that this thread is the owner, as the kind that it owned
+-- letting go: that this thread is the owner, as the line's kind
 asks LetGoHeaders = needs (owns-headers ∷ [])
 asks (LetGo κ b) = needs (owns κ b ∷ [])
 -- content lines: that this thread writes the block, to read it that it has a place in its set or writes it; and that the block isn't free

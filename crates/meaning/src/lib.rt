@@ -13,6 +13,9 @@ pub enum Kind {
     Writer,
 }
 
+// Of the lock of a number and of the owner of a block: a set of readers is below this, and a writer's word is this times one more than its thread.
+pub const SETS: u32 = 65536;
+
 // What an operation finishes with: 0; register c; or, by register h, 0 where it is free and else 1.
 pub enum Answer {
     Zero,
@@ -92,7 +95,7 @@ pub struct Effect {
     pub own: Pass,
 }
 
-// What a step would do: nothing, since a lock isn't free or a need isn't met; go on; or end its operation.
+// What a step would do: nothing, since a lock doesn't let it in or a need isn't met; go on; or end its operation.
 pub enum Verdict {
     Blocked,
     Fault,

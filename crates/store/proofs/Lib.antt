@@ -3,6 +3,7 @@ pub mod Every
 pub mod LastLines
 pub mod Bytes
 pub mod Decode
+pub mod Sets
 pub mod Sound
 pub mod Codec
 pub mod Range

@@ -17,7 +17,7 @@ use Rattle.meaning.specs.Store.{Store, idle, fresh}
 use Rattle.meaning.specs.Holding.{sets, proper}
 use Rattle.meaning.specs.Step.{worn}
 use Rattle.meaning.proofs.Base.Words.{either-way, and-left, and-right, or-way}
-use Rattle.meaning.proofs.Base.Sets.{none-proper}
+use Rattle.meaning.proofs.Base.Sets.{none-proper, proper-word}
 use Rattle.meaning.proofs.Acts.{NearWords}
 use Rattle.store.specs.Layout.{tAt, size}
 use Rattle.store.specs.Area.{Bytes, word, rows, threadRow, blockRow, words, encode, column, decode, wellFormed}
@@ -58,15 +58,6 @@ pub record Ranged (s : Store) : Type 0 where
   pub content : (m : ℕ) → Cell (s .blocks) (AtMost mostWord) m (s .content m)
   pub wear : (m : ℕ) → Cell (s .blocks) (AtMost mostWord) m (s .wear m)
   pub own : (m : ℕ) → Cell (s .blocks) (Proper (s .threads)) m (s .own m)
-
--- a proper word is one of 32 bits
-proper-word : (threads w : ℕ) → threads ≤ mostThreads → Proper threads w → w ≤ mostWord
-proper-word threads w few is =
-    or-way (ltb w (2 ^ threads)) _ is (λ x. let l = ltb-true w (2 ^ threads) x in let m = pow-mono few in omega arith)
-    (λ x.
-    let e : w % sets ≡ 0 = eqb-true (w % sets) 0 (and-left (eqb (w % sets) 0) _ x) in
-    let l : w / sets ≤ threads = leb-true (w / sets) threads (and-right (eqb (w % sets) 0) _ x) in
-    omega arith)
 
 pub ranged-fresh : (t n p d : ℕ) → inLimits t n p d ≡ true → Ranged (fresh t n p d)
 ranged-fresh t n p d l =

@@ -2,7 +2,8 @@
 -- its sizes, and these are in limits), what the setters do, and the working store.
 use mathlib.Core.Path.{_≡_}
 use mathlib.Core.List.{List}
-use Prim.Native.Nat.{ℕ, _+_, _*_, _/_, _%_, _<_, _≤_}
+use Prim.Native.Nat.{ℕ, zero, suc, _+_, _*_, _/_, _%_, _<_, _≤_}
+use lib.Bits.{bitOr}
 use lib.ListN.{length, getD, set, replicate}
 use Rattle.meaning.specs.declared.Thread.{Thread}
 use Rattle.meaning.specs.declared.Word.{Word}
@@ -44,6 +45,11 @@ PassWithin a from stride (Minus k m) = Within a (from + stride * k) × (m ≤ wo
 -- the words of a column are within the area
 abbrev pub Reaches : List ℕ → ℕ → ℕ → ℕ → Type 0
 Reaches a from stride count = (k : ℕ) → k < count → Within a (from + stride * k)
+
+-- the bits that the first so many entries of a table have
+abbrev pub allBits : ℕ → (ℕ → ℕ) → ℕ
+allBits zero f = 0
+allBits (suc k) f = bitOr (allBits k f) (f k)
 
 -- the words that a setter is given are words: what it can tell, since its arguments are
 abbrev pub BecomeFits : Word → Type 0

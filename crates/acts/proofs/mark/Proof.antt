@@ -8,7 +8,9 @@ use Rattle.acts.proofs.mark.Statement.{statement}
 use Rattle.acts.proofs.mark.Tie as tie
 
 returns : tie.Need-returns
-returns c = let low : 2 ^ c .before .before .args .t < sets = pow-lt (c .before .before .pre) in rw (c .enum-told .given .1) (omega arith)
+returns c =
+    let low : 2 ^ c .before .before .args .t < sets = pow-lt {j = 16} (omega (arith, c .before .before .pre)) in
+    rw (c .enum-told .given .1) (omega arith)
 
 returns-2 : tie.Need-returns-2
 returns-2 c = rw (c .enum-told2 .given .1)

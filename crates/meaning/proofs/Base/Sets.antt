@@ -13,7 +13,7 @@ use borrow.Author.Tests.{not-true, eqb-true, eqb-false, eq-eqb, ne-eqb, ltb-true
 use Rattle.meaning.specs.declared.Kind.{Kind}
 use Rattle.meaning.specs.declared.Kind.the-variants.{Reader, Writer}
 use Rattle.meaning.specs.Limits.{mostThreads, mostWord}
-use Rattle.meaning.specs.Holding.{none, free, by, sets, mark, unwritten, member, held, admits, writer, proper}
+use Rattle.meaning.specs.Holding.{none, free, by, sets, mark, unwritten, member, InParts, held, admits, writer, proper}
 use Rattle.meaning.proofs.Base.Words.{either-way, clash, and-left, and-right, or-way, free-none}
 
 -- ---- bits
@@ -107,6 +107,10 @@ some-member (suc k) w l f =
     let m = some-member k (w / 2) (omega arith) (ne-eqb (w / 2) 0 (λ h. omega arith)) in
     (suc (m .0), later (m .0) w ∙ m .1))
 
+-- a set of readers has so many bits; there are no more threads
+abbrev setBits : ℕ
+setBits = 16
+
 -- ---- kinds
 
 abbrev pub sameKind : Kind → Kind → Bool
@@ -165,7 +169,7 @@ written-off t w h = let e = writer-is t w h in omega arith
 
 -- a reader comes to a set, and leaves one
 reader-joins : (t w : ℕ) → t < mostThreads → admits Reader t w ≡ true → w + 2 ^ t < sets
-reader-joins t w b a = let x = let-in t w a in bit-below mostThreads t w b (x .0) (x .1)
+reader-joins t w b a = let x = let-in t w a in bit-below setBits t w (omega arith) (x .0) (x .1)
 
 reader-quits : (t w : ℕ) → held Reader t w ≡ true → w - 2 ^ t < sets
 reader-quits t w h = let b = placed-in t w h .0 in omega arith
@@ -290,13 +294,26 @@ quits-admits Reader Reader t u w apart h a =
 quits-admits Reader Writer t u w apart h a = clash h (rw (free-none w a) (nobody-held Reader t))
 quits-admits Writer κ′ t u w apart h a = free-admits κ′ u (w - mark Writer t) (eq-eqb (w - mark Writer t) 0 (written-off t w h))
 
+-- and it isn't where t comes and not both read
+pub joins-bars : (κ κ′ : Kind) (t u w : ℕ) → admits κ t w ≡ true → bothRead κ κ′ ≡ false → admits κ′ u (w + mark κ t) ≡ false
+joins-bars Reader Reader t u w a x = clash refl x
+joins-bars Reader Writer t u w a x = let p = pow-pos t in ne-eqb (w + 2 ^ t) 0 (λ e. omega arith)
+joins-bars Writer Reader t u w a x = rw (written-on t w a, le-ltb (mark Writer t) sets (omega arith))
+joins-bars Writer Writer t u w a x = ne-eqb (w + mark Writer t) 0 (λ e. omega arith)
+
 -- ---- of proper words
 
--- 02, §3, of T threads: no readers and a writer together, no member and no writer that isn't below T; of the two parts of the word
-pub record Apart (threads w : ℕ) : Type 0 where
-  pub not-both : (w % sets ≡ 0) ⊎ (w / sets ≡ 0)
-  pub members : (t : ℕ) → member t (w % sets) ≡ true → t < threads
-  pub writes : w / sets ≤ threads
+within-set : (threads : ℕ) → threads ≤ mostThreads → 2 ^ threads ≤ sets
+within-set threads few = pow-mono {i = threads} {j = setBits} (omega arith)
+
+-- a proper word is one of 32 bits
+pub proper-word : (threads w : ℕ) → threads ≤ mostThreads → proper threads w ≡ true → w ≤ mostWord
+proper-word threads w few is =
+    or-way (ltb w (2 ^ threads)) _ is (λ x. let l = ltb-true w (2 ^ threads) x in let m = within-set threads few in omega arith)
+    (λ x.
+    let e : w % sets ≡ 0 = eqb-true (w % sets) 0 (and-left (eqb (w % sets) 0) _ x) in
+    let l : w / sets ≤ threads = leb-true (w / sets) threads (and-right (eqb (w % sets) 0) _ x) in
+    omega arith)
 
 -- a set whose members are all below a number is below that power of two
 members-below : (k j w : ℕ) → w < 2 ^ j → ((t : ℕ) → member t w ≡ true → t < k) → w < 2 ^ k
@@ -309,12 +326,12 @@ members-below (suc k) j w b below =
     members-below k j (w / 2) (omega arith) (λ t x. let l : suc t < suc k = below (suc t) (later t w ∙ x) in omega arith) in
     omega arith
 
-proper-apart : (threads w : ℕ) → threads ≤ mostThreads → proper threads w ≡ true → Apart threads w
+proper-apart : (threads w : ℕ) → threads ≤ mostThreads → proper threads w ≡ true → InParts threads w
 proper-apart threads w few is =
     or-way (ltb w (2 ^ threads)) _ is
     (λ x.
     let l = ltb-true w (2 ^ threads) x in
-    let m = pow-mono few in
+    let m = within-set threads few in
     let set : w % sets ≡ w = omega arith in
     let nobody : w / sets ≡ 0 = omega arith in
     record {
@@ -335,14 +352,14 @@ proper-apart threads w few is =
       writes = leb-true (w / sets) threads (and-right (eqb (w % sets) 0) _ x);
     })
 
-pub proper-exactly : (threads w : ℕ) → threads ≤ mostThreads → (proper threads w ≡ true) ↔ Apart threads w
+pub proper-exactly : (threads w : ℕ) → threads ≤ mostThreads → (proper threads w ≡ true) ↔ InParts threads w
 proper-exactly threads w few = (proper-apart threads w few, λ A. go A (A .not-both))
   where
-    go : Apart threads w → (w % sets ≡ 0) ⊎ (w / sets ≡ 0) → proper threads w ≡ true
+    go : InParts threads w → (w % sets ≡ 0) ⊎ (w / sets ≡ 0) → proper threads w ≡ true
     go A (inl e) = rw (e, le-leb (w / sets) threads (A .writes)) (or-true (ltb w (2 ^ threads)))
     go A (inr e) =
         let set : w % sets ≡ w = omega arith in
-        rw (lt-ltb w (2 ^ threads) (members-below threads mostThreads w (omega arith) (λ t x. A .members t (rw set x))))
+        rw (lt-ltb w (2 ^ threads) (members-below threads setBits w (omega arith) (λ t x. A .members t (rw set x))))
 
 pub none-proper : (threads : ℕ) → proper threads none ≡ true
 none-proper threads = rw (lt-ltb none (2 ^ threads) (pow-pos threads))
@@ -362,7 +379,7 @@ module _ (threads : ℕ) (few : threads ≤ mostThreads) (w : ℕ) (is : proper 
   writer-found u =
       let b : sets ≤ w = ltb-false w sets u in
       or-way (ltb w (2 ^ threads)) _ is
-      (λ x. let l = ltb-true w (2 ^ threads) x in let m = pow-mono few in absurd (omega arith))
+      (λ x. let l = ltb-true w (2 ^ threads) x in let m = within-set threads few in absurd (omega arith))
       (λ x.
       let e : w % sets ≡ 0 = eqb-true (w % sets) 0 (and-left (eqb (w % sets) 0) _ x) in
       eq-eqb w (mark Writer (writer w)) (omega arith))

@@ -1,6 +1,6 @@
 -- A step of one thread keeps what the others hold and know. What a step's effect changes, its thread has what guards it (`Guards`);
--- what another thread knows of a word, that thread has what guards it (the table, tested at each line by computation). So one law
--- a kind of fact is enough, and no two lines or acts are compared.
+-- what another thread knows of a word, that thread has what guards it, or reads beside it (the table, tested at each line by computation). So one
+-- law for each kind of fact is enough, and no two lines or acts are compared.
 -- Assumes nothing.
 use mathlib.Core.Path.{_≡_, refl, sym, ap, _∙_, subst, fun-ext}
 use mathlib.Core.Bool.{Bool, true, false, not, cond, _&&_, _||_, or-true}
@@ -59,12 +59,16 @@ pub up : (a b : Thread → Bool) → implies a b ≡ true → (r : Thread) → S
     a (standing (r .op) (r .line)) ≡ true → b (standing (r .op) (r .line)) ≡ true
 up a b all r st x = rw x at (everywhere (λ op line. not (a (standing op line)) || b (standing op line)) all r st)
 
--- there are at most 16 threads
-pub few-threads : (t n p d : ℕ) → inLimits t n p d ≡ true → t ≤ mostThreads
-few-threads t n p d l =
+-- there are at most 16 threads, more blocks than numbers, and some number
+pub limits-say : (t n p d : ℕ) → inLimits t n p d ≡ true → (t ≤ mostThreads) × (n < p) × (0 < n)
+limits-say t n p d l =
     let three = and-left _ (within least mostDistance d) l in
-    let two = and-left (within least mostThreads t && within least mostNumbers n) (within (n + 1) mostBlocks p) three in
-    within-true least mostThreads t (and-left (within least mostThreads t) _ two) .1
+    let two = and-left _ (within (n + 1) mostBlocks p) three in
+    let blocks =
+    within-true (n + 1) mostBlocks p (and-right (within least mostThreads t && within least mostNumbers n) _ three) in
+    let numbers = within-true least mostNumbers n (and-right (within least mostThreads t) _ two) in
+    let threads = within-true least mostThreads t (and-left (within least mostThreads t) _ two) in
+    omega arith
 
 -- ---- words and tables that another thread keeps
 
@@ -278,7 +282,7 @@ module _ (s : Store) (I : Inv s) (t : ℕ) (r′ : Thread) (e : Effect) (M : Mov
 
   pub moves-inv : t < s .threads → Inv (apply s t r′ e)
   moves-inv below =
-      let few = few-threads (s .threads) (s .numbers) (s .blocks) (s .distance) (I .limits) in
+      let few = limits-say (s .threads) (s .numbers) (s .blocks) (s .distance) (I .limits) .0 in
       record {
         limits = I .limits;
         stands = upd-each (λ v r. Stands r) (s .thread) t r′ (M .stands) (λ v _. I .stands v);

@@ -1,4 +1,4 @@
--- What the invariant says of who shares what: what is free where a line owns it, where headers and map agree, and that W5 and L3 find
+-- What the invariant says of who shares what: who is let in where a line owns, where headers and map agree, and that W5 and L3 find
 -- the free block that they ask for.
 -- Assumes nothing.
 use mathlib.Core.Path.{_≡_, refl, sym, _∙_, subst}
@@ -18,18 +18,8 @@ use Rattle.meaning.specs.Choosing.{lowestFree, toBlock}
 use Rattle.meaning.proofs.Base.Words.{same, clash, and-left, and-right, or-way, within-true, free-held, held-once, alone-free, free-none, naming-once, naming-not-none}
 use Rattle.meaning.proofs.Base.Sets.{sameKind, bothRead, writer-alone, admits-unless}
 use Rattle.meaning.proofs.Invariant.{kind, holdsH, holdsN, ownsHeaders, ownsP, ownsQ, n-on-p, n-on-q, p-free, q-free, p-headed, q-headed, p-astray, q-astray, If, leadsAstray, GuardsContent, Back, Astray, Inv}
-use Rattle.meaning.proofs.Invariant.Keeping.{few-threads, up}
+use Rattle.meaning.proofs.Invariant.Keeping.{limits-say, up}
 use Rattle.meaning.proofs.Base.Searches.{crowded, finds, finds-nobody, Lowest, lowest-finds, To, to-finds}
-
--- there are more blocks than numbers, and some number
-pub limits-numbers-blocks : (t n p d : ℕ) → inLimits t n p d ≡ true → (n < p) × (0 < n)
-limits-numbers-blocks t n p d l =
-    let three = and-left _ (within least mostDistance d) l in
-    let two = and-left _ (within (n + 1) mostBlocks p) three in
-    let blocks =
-    within-true (n + 1) mostBlocks p (and-right (within least mostThreads t && within least mostNumbers n) _ three) in
-    let numbers = within-true least mostNumbers n (and-right (within least mostThreads t) _ two) in
-    omega arith
 
 -- the fact of a row whose flag is up
 pub fact : (b : Bool) (A : Type 0) → b ≡ true → If b A → A
@@ -43,7 +33,7 @@ data Owned (s : Store) (κ : Kind) (v m : ℕ) : Type 0 where
 
 module _ (s : Store) (I : Inv s) where
   pub numbers-blocks : (s .numbers < s .blocks) × (0 < s .numbers)
-  numbers-blocks = limits-numbers-blocks (s .threads) (s .numbers) (s .blocks) (s .distance) (I .limits)
+  numbers-blocks = let x = limits-say (s .threads) (s .numbers) (s .blocks) (s .distance) (I .limits) in (x .1, x .2)
 
   -- ---- blocks
 
@@ -84,7 +74,7 @@ module _ (s : Store) (I : Inv s) where
   -- ---- who may own
 
   pub few : s .threads ≤ mostThreads
-  few = few-threads (s .threads) (s .numbers) (s .blocks) (s .distance) (I .limits)
+  few = limits-say (s .threads) (s .numbers) (s .blocks) (s .distance) (I .limits) .0
 
   -- t, which doesn't own block m, may own it where it has the lock of the number mapped to it, as the same kind
   pub mapped-block-admits : (κ : Kind) (t n m : ℕ) → s .map n ≡ naming m → held κ t (s .locks n) ≡ true →

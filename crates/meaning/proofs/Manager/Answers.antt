@@ -10,7 +10,6 @@ use lib.Dec.{eqb}
 use lib.ListN.{length, take}
 use lib.Seq.{take-at}
 use borrow.Author.Tests.{eqb-true, eqb-false, ne-eqb}
-use Rattle.meaning.specs.declared.Kind.{Kind}
 use Rattle.meaning.specs.declared.Kind.the-variants.{Writer}
 use Rattle.meaning.specs.declared.Thread.{Thread}
 use Rattle.meaning.specs.declared.Effect.{Effect}
@@ -187,15 +186,15 @@ matches-run s I m M (e ∷ w) =
 -- ---- demand 2
 
 future-alone : (s : Store) → Inv s → (k : ℕ) →
-    ((κ : Kind) (v : ℕ) → held κ v (s .locks k) ≡ true → leavesAlone (s .thread v) ≡ true) → future s k ≡ status s k
+    ((v : ℕ) → held Writer v (s .locks k) ≡ true → leavesAlone (s .thread v) ≡ true) → future s k ≡ status s k
 future-alone s I k alone =
     either-way (unwritten (s .locks k)) (λ u. future-unwritten s k u)
     (λ u.
     let r = s .thread (writer (s .locks k)) in
-    let idles = alone Writer (writer (s .locks k)) (writer-found (s .threads) (few s I) (s .locks k) (I .locks k) u) in
+    let levels = alone (writer (s .locks k)) (writer-found (s .threads) (few s I) (s .locks k) (I .locks k) u) in
     rw u (either-way (eqb (r .op) LEVEL) (λ x. rw x)
     (λ x.
-    let reads : eqb (r .op) READ ≡ true = rw x at idles in
+    let reads : eqb (r .op) READ ≡ true = rw x at levels in
     let writes : eqb (r .op) WRITE ≡ false = rw (eqb-true (r .op) READ reads) in
     rw (x, writes, reads))))
 
@@ -241,9 +240,9 @@ module _ (t n p d : ℕ) (limits : inLimits t n p d ≡ true) (w : List Entry) w
       asked k (obeyAll initial (order callStore (λ s. s) (fresh t n p d) w)) ≡ future (run callStore (fresh t n p d) w) k
   manager-will = matches-run (fresh t n p d) (inv-fresh t n p d limits) initial (λ k. refl) w
 
-  -- whether k is mapped, and what its block holds, is what the manager has of it: where only a reader or a leveller may have k's lock
+  -- whether k is mapped, and what its block holds, is what the manager has of it: where k's lock is written by nobody, or in a levelling
   pub manager-status : (k : ℕ) →
-      ((κ : Kind) (v : ℕ) → held κ v (run callStore (fresh t n p d) w .locks k) ≡ true →
+      ((v : ℕ) → held Writer v (run callStore (fresh t n p d) w .locks k) ≡ true →
       leavesAlone (run callStore (fresh t n p d) w .thread v) ≡ true) →
       status (run callStore (fresh t n p d) w) k ≡ asked k (obeyAll initial (order callStore (λ s. s) (fresh t n p d) w))
   manager-status k alone =
@@ -255,4 +254,4 @@ module _ (t n p d : ℕ) (limits : inLimits t n p d ≡ true) (w : List Entry) w
       status (run callStore (fresh t n p d) w) k ≡ asked k (obeyAll initial (order callStore (λ s. s) (fresh t n p d) w))
   manager-status-rest rest k =
       let I = inv-run (fresh t n p d) (inv-fresh t n p d limits) w in
-      manager-status k (λ κ v h. clash h (I .holds v .locks κ k ∙ rw (idle-is _ (I .stands v) (rest v))))
+      manager-status k (λ v h. clash h (I .holds v .locks Writer k ∙ rw (idle-is _ (I .stands v) (rest v))))

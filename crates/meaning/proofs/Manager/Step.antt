@@ -73,8 +73,8 @@ module _ (s : Store) (I : Inv s) (t : ℕ) (r′ : Thread) (e : Effect) (M : Mov
       subst (λ (k : ℕ). held (kind r′) t (s′ .locks k) ≡ true) is (held-after (kind r′) (r′ .n) ∙ n-locked r′ y)
 
   -- nobody writes where t comes to it
-  own-free : holdsN r ≡ false → holdsN r′ ≡ true → unwritten (s .locks n) ≡ true
-  own-free x y = go (became n)
+  came-unwritten : holdsN r ≡ false → holdsN r′ ≡ true → unwritten (s .locks n) ≡ true
+  came-unwritten x y = go (became n)
     where
       lacks : (κ : Kind) → held κ t (s .locks n) ≡ false
       lacks κ = held-before κ n ∙ rw x
@@ -85,8 +85,8 @@ module _ (s : Store) (I : Inv s) (t : ℕ) (r′ : Thread) (e : Effect) (M : Mov
       go (left κ h _) = clash h (lacks κ)
 
   -- and where it has gone from it
-  own-freed : holdsN r ≡ true → holdsN r′ ≡ false → unwritten (s′ .locks n) ≡ true
-  own-freed x y = go (became n)
+  gone-unwritten : holdsN r ≡ true → holdsN r′ ≡ false → unwritten (s′ .locks n) ≡ true
+  gone-unwritten x y = go (became n)
     where
       go : Became t (s .locks n) (s′ .locks n) → unwritten (s′ .locks n) ≡ true
       go (stayed e) = clash (own-held x) (sym (ap (held (kind r) t) e) ∙ held-after (kind r) n ∙ rw y)
@@ -126,7 +126,7 @@ module _ (s : Store) (I : Inv s) (t : ℕ) (r′ : Thread) (e : Effect) (M : Mov
 
   -- so where it takes a number's lock, the number will be as it is
   pub takes-status : takesN (s .thread t) ≡ true → future s (s .thread t .n) ≡ status s (s .thread t .n)
-  takes-status x = future-unwritten s n (own-free (takes-lacks x) (fact (takesN r) _ x (M .taken)))
+  takes-status x = future-unwritten s n (came-unwritten (takes-lacks x) (fact (takesN r) _ x (M .taken)))
 
   after-held : holdsN r′ ≡ true → future s′ n ≡ promised r′ (status s′ n)
   after-held y =
@@ -140,8 +140,8 @@ module _ (s : Store) (I : Inv s) (t : ℕ) (r′ : Thread) (e : Effect) (M : Mov
       (λ y.
       let before : future s n ≡ promised r (status s n) = future-held s n t (own-held y) ∙ rw y in
       either-way (holdsN r′) (λ z. after-held z ∙ M .promise ∙ rw x (sym before))
-      (λ z. future-unwritten s′ n (own-freed y z) ∙ rw z at (M .promise) ∙ rw x (sym before)))
-      (λ y. either-way (holdsN r′) (λ z. after-held z ∙ M .promise ∙ rw x (rw y (sym (future-unwritten s n (own-free y z)))))
+      (λ z. future-unwritten s′ n (gone-unwritten y z) ∙ rw z at (M .promise) ∙ rw x (sym before)))
+      (λ y. either-way (holdsN r′) (λ z. after-held z ∙ M .promise ∙ rw x (rw y (sym (future-unwritten s n (came-unwritten y z)))))
       (λ z. future-unheld n (λ κ. rw y) (λ κ. rw z)))))
 
   -- ---- any number, and what is owed

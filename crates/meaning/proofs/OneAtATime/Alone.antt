@@ -39,7 +39,7 @@ use Rattle.meaning.proofs.OneAtATime.Settles.{cleared, stepped, stepped
 
 -- ---- what is said
 
--- a lock or owner word, if it is t's
+-- H's word or the headers' owner, if it is t's
 abbrev mine : ℕ → ℕ → ℕ
 mine t w = cond (heldBy t w) w none
 

@@ -102,7 +102,7 @@ entry-admits-kept about t u apart c f (quits κ′ i h) κ k =
     upd-each (λ k w. ((κ′ : Kind) → about κ′ k → bothRead κ′ κ ≡ true) → admits κ u (f k) ≡ true → admits κ u w ≡ true) f i (f i - mark κ′ t)
     (λ _ a. quits-admits κ′ κ t u (f i) apart h a) (λ k _ _ a. a) k
 
--- where two threads are not about to take the same lock, a number's lock that both are about to take they take for reading
+-- where two threads are none of the exception, a number's lock that both are about to take they take for reading
 beside : (r q : Thread) (κ κ′ : Kind) → sameTake r q ≡ false → takesLock κ r (q .n) ≡ true → (takesN q && sameKind κ′ (kind q)) ≡ true →
     bothRead κ κ′ ≡ true
 beside r q κ κ′ others x y =

@@ -126,7 +126,7 @@ answer Zero r = 0
 answer C r = r .c
 answer Moved r = moved (r .h)
 
--- t has a place in the block's set or writes it, and its header isn't free: what reading a content needs
+-- t reads or writes the block, and its header isn't free: what reading a content needs
 abbrev pub sees : Store → ℕ → ℕ → Bool
 sees s t m = (held Reader t (s .own m) || held Writer t (s .own m)) && not (free (s .header m))
 

@@ -191,8 +191,8 @@ fn all_at_most(area: &[u8], from: usize, stride: usize, count: usize, bound: u32
     all
 }
 
-// A set whose members are below t, or no members and a writer below t, or nobody. `SETS >> (16 - t)` is `1 << t`, of which the compiler makes a
-// shift of each word: loops with this form are a fifth faster.
+// Readers below t, or a writer below t and no reader, or nobody. `SETS >> (16 - t)` is `1 << t`, of which the compiler makes a shift of each word:
+// loops with this form are a fifth faster.
 fn proper(t: u32, w: u32) -> bool
     requires { ⌜ t ≤ mostThreads ⌝ }
     ensures { λ r. ⌜ r ≡ properOf t w ⌝ }

@@ -1,6 +1,6 @@
 -- Computed: what the demands speak of is there.
 --  * needs-fault: each line goes on an area made by hand that has what the line needs, and meets FAULT (a take: BLOCKED) where one thing of it is
---    lacking; where all else is free, where all else is the thread's and it writes, and where it reads.
+--    lacking; both where all else is free and where all else is the thread's.
 --  * meetings-come, meetings-grown: areas grown from fresh where two threads are open at once. In the middle of a write and of a levelling
 --    that moves a block they step in either order, to the same bytes, and so they do at a take of one lock for reading; where both are at a take of
 --    one lock and not both for reading, whoever comes second is BLOCKED, and the bytes are others.
@@ -35,9 +35,9 @@ use Rattle.demands.specs.Reached.{Meeting, formed, reached, meet, meetin
 use Rattle.demands.specs.History.{AllWords}
 use Rattle.demands.proofs.Bridge.{run-grown}
 
-pub needs-fault : (allGiven 0 0 ≡ allWanted) × (allGiven 1 65536 ≡ allWanted) × (allGiven 1 1 ≡ allWanted)
+pub needs-fault : (allGiven 0 0 ≡ allWanted) × (allGiven 1 65536 ≡ allWanted)
 unfolding lineNeeds wellFormed
-needs-fault = (refl, refl, refl)
+needs-fault = (refl, refl)
 
 pub meetings-come : map (λ m. meet (reached m)) meetings ≡ map (λ m. m .comes) meetings
 unfolding meetings wellFormed

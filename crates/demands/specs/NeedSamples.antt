@@ -21,7 +21,7 @@ inQ = 2
 
 -- an area of two threads, one number and three blocks. Thread 0 stands at a line, with 0, 1 and 2 in n, p and q. H, the headers' owner and all
 -- headers are w: 0 for free, or 1, so that H and the headers are thread 0's and the blocks number 0's. The number's lock and the blocks' owners are
--- x: 0 for free, 1 where thread 0 reads, or 65,536 where it writes
+-- x: 0 for free, or 65,536 where thread 0 writes
 abbrev pub made : ℕ → ℕ → ℕ → ℕ → List ℕ
 made w x op line =
     2 ∷ 1 ∷ 3 ∷ 1 ∷ w ∷ w  -- the four sizes, H and the headers' owner
@@ -74,22 +74,23 @@ abbrev pub nobodys : ℕ → Sample
 nobodys at = sample at (0 ∷ []) (1 ∷ 2 ∷ [])
 
 -- the number's lock or a block: 1 is this thread's place in the set, 2 thread 1's, 3 both; 65,536 is this thread's writing, 131,072 thread 1's.
--- A reader is let in where nobody has it and where thread 1 alone reads, a writer where nobody has it
+-- A reader is let in beside thread 1's reading, a writer where nobody has it. All these words at the lines of a read and of a write are in Listening
+-- of the crate cases
 abbrev pub lets-reader : ℕ → Sample
-lets-reader at = sample at (0 ∷ 2 ∷ []) (1 ∷ 3 ∷ 65536 ∷ 131072 ∷ [])
+lets-reader at = sample at (2 ∷ []) (3 ∷ 131072 ∷ [])
 
 abbrev pub lets-writer : ℕ → Sample
-lets-writer at = sample at (0 ∷ []) (1 ∷ 2 ∷ 3 ∷ 65536 ∷ 131072 ∷ [])
+lets-writer at = sample at (0 ∷ []) (1 ∷ 2 ∷ 65536 ∷ [])
 
 -- this thread reads it, whoever else does; it writes it; it does either
 abbrev pub read : ℕ → Sample
-read at = sample at (1 ∷ 3 ∷ []) (0 ∷ 2 ∷ 65536 ∷ 131072 ∷ [])
+read at = sample at (3 ∷ []) (2 ∷ 65536 ∷ [])
 
 abbrev pub written : ℕ → Sample
-written at = sample at (65536 ∷ []) (0 ∷ 1 ∷ 2 ∷ 3 ∷ 131072 ∷ [])
+written at = sample at (65536 ∷ []) (0 ∷ 1 ∷ 131072 ∷ [])
 
 abbrev pub read-or-written : ℕ → Sample
-read-or-written at = sample at (1 ∷ 3 ∷ 65536 ∷ []) (0 ∷ 2 ∷ 131072 ∷ [])
+read-or-written at = sample at (3 ∷ 65536 ∷ []) (2 ∷ 131072 ∷ [])
 
 -- a header that is not free
 abbrev pub used : ℕ → Sample

@@ -230,7 +230,7 @@ fn each_proper(area: &[u8], from: usize, stride: usize, count: usize, t: u32) ->
     all
 }
 
-// The same. It is so where the bits that they have are a proper word, and that is quicker to see: readers alone have them, or writers alone.
+// The same. It is so where the bits that all of them have are a proper word, which is quicker to see: as where only readers have them, or one writer.
 fn all_proper(area: &[u8], from: usize, stride: usize, count: usize, t: u32) -> bool
     requires { ⌜ Reaches (now area) from stride count × (t ≤ mostThreads) ⌝ }
     ensures { λ r. ⌜ r ≡ every count (λ k. properOf t (word (now (area .entry)) (from + stride * k))) ⌝ }

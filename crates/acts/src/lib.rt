@@ -1,6 +1,8 @@
 // The four programs as tables, and the small by-value functions that a line is made of.
 // Records, effects, verdicts: each function is the definition of the same name in the crate meaning (specs/Programs.antt,
 // specs/Holding.antt, specs/Step.antt).
+#![tactic(auto)]
+
 ghost use Rattle.std.specs.Prelude.{◌≡◌, cond, ◌+◌, ◌<◌, ◌≤◌};
 ghost use Rattle.meaning.specs.Limits.{most_threads, most_word};
 ghost use Rattle.meaning.specs.Holding.{mark as mark_of, member as member_of, held as held_of, admits as admits_of, named as named_of};

@@ -1,6 +1,8 @@
 // The calls format, begin and step, on numbers and an area of bytes.
 // Each refuses in the order of document 01's table and otherwise does what its definition says (specs/Means.antt); the result is number
 // times 4,294,967,296 plus value. None of the three has a `requires`.
+#![tactic(auto)]
+
 ghost use Rattle.std.specs.Prelude.{◌≡◌, ◌+◌, ◌*◌, ◌<◌, ◌≤◌, length, replicate};
 ghost use Rattle.meaning.specs.Numbers.{packed};
 ghost use Rattle.meaning.specs.Store.{idle as idle_of};

@@ -1,6 +1,8 @@
 // The step machine: the searches and what a line would do, on the working store, and doing it in the area.
 // `judge_act` and `judge` say what a line would do, `settle` does it. The definitions are those of the crate meaning, specs/Choosing.antt and
 // specs/Step.antt.
+#![tactic(auto)]
+
 ghost use Rattle.std.specs.Prelude.{◌≡◌, ◌<◌, ◌≤◌};
 ghost use Rattle.meaning.specs.Table.{below};
 ghost use Rattle.meaning.specs.Store.{Store as StoreOf};

@@ -1,15 +1,16 @@
 // The types of code and definitions alike, the definitions of the machine, the manager and schedules, and what is proved of them over stores.
 // What the types mean stands in specs/; nothing here runs.
+#![tactic(auto)]
 
 // A register that holds a block's number.
-#[derive(Drop)]
+#[derive(Clone, Copy)]
 pub enum Reg {
     P,
     Q,
 }
 
 // How a thread takes a number's lock or owns a block: as one of the readers, or as the one writer.
-#[derive(Drop)]
+#[derive(Clone, Copy)]
 pub enum Kind {
     Reader,
     Writer,
@@ -19,7 +20,7 @@ pub enum Kind {
 pub const SETS: u32 = 65536;
 
 // What an operation finishes with: 0; register c; or, by register h, 0 where it is free and else 1.
-#[derive(Drop)]
+#[derive(Clone, Copy)]
 pub enum Answer {
     Zero,
     C,
@@ -27,7 +28,7 @@ pub enum Answer {
 }
 
 // What a line does. A number is the line to go to. The first is what stands at no line.
-#[derive(Drop)]
+#[derive(Clone, Copy)]
 pub enum Act {
     Nothing,
     TakeH,
@@ -58,7 +59,7 @@ pub enum Act {
 }
 
 // A thread's record: operation, line and the five registers, in the area's order.
-#[derive(Drop)]
+#[derive(Clone, Copy)]
 pub struct Thread {
     pub op: u32,
     pub line: u32,
@@ -70,21 +71,21 @@ pub struct Thread {
 }
 
 // What becomes of a word: it stays, or becomes a value.
-#[derive(Drop)]
+#[derive(Clone, Copy)]
 pub enum Word {
     Stay,
     Become(u32),
 }
 
 // What becomes of a table: it is kept, or a value is put at an index.
-#[derive(Drop)]
+#[derive(Clone, Copy)]
 pub enum Update {
     Keep,
     Put(u32, u32),
 }
 
 // What becomes of the locks or of the owners of blocks: they are left, or an amount is added to the word at an index, or taken off it.
-#[derive(Drop)]
+#[derive(Clone, Copy)]
 pub enum Pass {
     Leave,
     Plus(u32, u32),
@@ -92,7 +93,7 @@ pub enum Pass {
 }
 
 // What a step does to the store beside its thread's record: in each table one entry at most.
-#[derive(Drop)]
+#[derive(Clone, Copy)]
 pub struct Effect {
     pub lock: Word,
     pub owner: Word,
@@ -105,7 +106,7 @@ pub struct Effect {
 }
 
 // What a step would do: nothing, since a lock doesn't let it in or a need isn't met; go on; or end its operation.
-#[derive(Drop)]
+#[derive(Clone, Copy)]
 pub enum Verdict {
     Blocked,
     Fault,
@@ -114,7 +115,7 @@ pub enum Verdict {
 }
 
 // What a search among blocks finds.
-#[derive(Drop)]
+#[derive(Clone, Copy)]
 pub enum Found {
     Nobody,
     At(u32),

@@ -1,5 +1,7 @@
 // The page of a wear sheet, as text.
 // 02, §2. What is printed is `page_of` of specs/Page.antt. Each function that writes puts its bytes at a place, and the place after them comes back.
+#![tactic(auto)]
+
 ghost use Rattle.std.specs.Prelude.{◌≡◌, ◌+◌, ◌*◌, ◌≤◌, length};
 ghost use Rattle.script.specs.Printing.{Wrote};
 ghost use Rattle.sheet.specs.Adding.{shown};

@@ -1,6 +1,8 @@
 // The script language: what the script program prints for a whole input.
 // 01, "The script program". A line is read into a command, the command is put to the store, and the reply is printed. `run` does that for a
 // whole input; what it prints is `output` of specs/Output.antt.
+#![tactic(auto)]
+
 ghost use Rattle.std.specs.Prelude.{◌≡◌, cond, [], ◌∷◌, ◌+◌, ◌≤◌, ◌<◌, leb, length, take, drop};
 ghost use Rattle.store.specs.Layout.{size, largest};
 ghost use Rattle.store.specs.Calls.{begin_area, step_area};

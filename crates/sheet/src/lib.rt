@@ -1,6 +1,8 @@
 // The wear sheet: a tally of areas, blocks and wear that a caller lends, and adding an area to it.
 // 02, §2. What adding means stands in specs/Adding.antt; that a tally comes to one definition over all blocks of all areas, whatever their order, in
 // proofs/Sheets.antt. The area is read through `&` and never changed.
+#![tactic(auto)]
+
 ghost use Rattle.std.specs.Prelude.{◌≡◌, true, cond, ◌+◌, ◌<◌, ◌≤◌};
 ghost use Rattle.meaning.specs.Limits.{most_blocks};
 ghost use Rattle.meaning.specs.Holding.{free};

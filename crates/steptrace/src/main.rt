@@ -1,6 +1,8 @@
 // The script program: standard input through the script language to standard output.
 // 01, "The script program". It reads to the end of its input, or to one byte more than a script may have, and writes what `script` prints
 // for it. A read that fails ends the input; a write that fails ends the program.
+#![tactic(auto)]
+
 use libc::{STDIN_FILENO, STDOUT_FILENO};
 
 fn main() {

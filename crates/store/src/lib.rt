@@ -1,5 +1,7 @@
 // The store area: its definition and its test, reading and setting its words, and the working store that is filled from it.
 // What an area means stands in specs/Area.antt; every contract below is an equality with a definition of specs/ or of the limits.
+#![tactic(auto)]
+
 ghost use Rattle.std.specs.Prelude.{◌≡◌, ◌+◌, ◌*◌, ◌<◌, ◌≤◌, leb};
 ghost use Rattle.meaning.specs.Table.{every};
 ghost use Rattle.meaning.specs.Limits.{most_threads, most_numbers, most_blocks, in_limits};

@@ -2,6 +2,8 @@
 // 02, §2. The files are taken in turn. One that can't be read is named on standard error with the system's reason, and is no area at all. One
 // that is longer than any area, or malformed, is named there and counts as skipped. Where an area is refused, no more files are read. Then the
 // page of what was added is printed.
+#![tactic(auto)]
+
 ghost use Rattle.std.specs.Prelude.{◌≡◌};
 ghost use Rattle.io.specs.Counts.{IsPrefixLen};
 ghost use Rattle.sheet.specs.Adding.{add_area};

@@ -65,14 +65,14 @@ module _ (s : Store) (t : ℕ) where
 
   walking : From (Walking WRITE) 9 8
   walking =
-      (λ n c p q h. needed (held Writer t (s.own p)) _ _ (refl, λ _. refl))  -- W9
+      (λ n c p q h. needed (held Writer t (s.own p)) (at WRITE 9 n c p q h) _ (refl, λ _. refl))  -- W9
       ▸ (λ n c p q h. (refl, λ _. refl))  -- W10
-      ▸ (λ n c p q h. needed (held_by t s.owner) _ _ (refl, λ _. refl))  -- W11
-      ▸ (λ n c p q h. needed (held_by t s.lock) _ _ (refl, λ _. refl))  -- W12
-      ▸ (λ n c p q h. needed (admits Writer t (s.own p)) _ _ (refl, λ _. refl))  -- W13
-      ▸ (λ n c p q h. needed (touches s t p) _ _ (refl, λ x. absurd (omega arith)))  -- W14
-      ▸ (λ n c p q h. needed (held Writer t (s.own p)) _ _ (refl, λ _. refl))  -- W15
-      ▸ (λ n c p q h. needed (held Writer t (s.locks n)) _ _ tt)  -- W16
+      ▸ (λ n c p q h. needed (held_by t s.owner) (at WRITE 11 n c p q h) _ (refl, λ _. refl))  -- W11
+      ▸ (λ n c p q h. needed (held_by t s.lock) (at WRITE 12 n c p q h) _ (refl, λ _. refl))  -- W12
+      ▸ (λ n c p q h. needed (admits Writer t (s.own p)) (at WRITE 13 n c p q h) _ (refl, λ _. refl))  -- W13
+      ▸ (λ n c p q h. needed (touches s t p) (at WRITE 14 n c p q h) _ (refl, λ (x : 14 ≤ 13). absurd (omega arith)))  -- W14
+      ▸ (λ n c p q h. needed (held Writer t (s.own p)) (at WRITE 15 n c p q h) _ (refl, λ _. refl))  -- W15
+      ▸ (λ n c p q h. needed (held Writer t (s.locks n)) (at WRITE 16 n c p q h) _ tt)  -- W16
       ▸ tt
 
 -- ---- a call

@@ -4,19 +4,18 @@ use mathlib.Core.Path.{◌≡◌, refl, sym, ◌∙◌, ap, subst}
 use mathlib.Core.Bool.{true}
 use mathlib.Core.List.{List, [], ◌∷◌, ◌++◌}
 use mathlib.Core.Logic.{inl, inr}
-use Prim.Native.Nat.{ℕ, zero, suc, ◌+◌, ◌*◌, ◌%◌, ◌^◌, ◌/◌, ◌<◌, ◌≤◌}
+use Prim.Native.Nat.{ℕ, zero, suc, ◌+◌, ◌*◌, ◌<◌, ◌≤◌}
 use native.Mathlib.Omega.{arith}
 use lib.Dec.{eqb, ltb}
 use lib.ListN.{length}
-use lib.Pow.{pow_mono}
-use borrow.Author.Tests.{eqb-true, ltb-true, ltb-false, lt-ltb, le-ltb, leb-true}
+use borrow.Author.Tests.{ltb-true, ltb-false, lt-ltb, le-ltb}
 use Rattle.meaning.specs.declared.Thread.{Thread}
 use Rattle.meaning.specs.Numbers.{WENT}
-use Rattle.meaning.specs.Limits.{most_threads, most_word, in_limits}
+use Rattle.meaning.specs.Limits.{most_word, in_limits}
 use Rattle.meaning.specs.Store.{Store, idle, fresh}
-use Rattle.meaning.specs.Holding.{sets, proper}
+use Rattle.meaning.specs.Holding.{proper}
 use Rattle.meaning.specs.Step.{worn}
-use Rattle.meaning.proofs.Base.Words.{either_way, and_left, and_right, or_way}
+use Rattle.meaning.proofs.Base.Words.{either_way}
 use Rattle.meaning.proofs.Base.Sets.{none-proper, proper-word}
 use Rattle.meaning.proofs.Acts.{NearWords}
 use Rattle.store.specs.Layout.{t_at, size}

@@ -386,8 +386,8 @@ module _ {a : List ℕ} {t n p : ℕ} (live : Live a t n p) where
   -- several words past the sizes that are put
   live-put_from : {b : List ℕ} → Live b t n p → (i e : ℕ) (vs : List ℕ) → p_at < i → 4 * (i + e + length vs) ≤ size t n p → OfWords vs → Live (put_from b i e vs) t n p
   live-put_from l i e [] past fit all = l
-  live-put_from l i e (v ∷ vs) past fit all =
-      live-put_from (live-put l (i + e) v (omega (arith, l.fits)) (omega arith) all.0) i (suc e) vs past (omega arith) all.1
+  live-put_from {b = b} l i e (v ∷ vs) past fit all =
+      live-put_from {b = put_word b (i + e) v} (live-put l (i + e) v (omega (arith, l.fits)) (omega arith) all.0) i (suc e) vs past (omega arith) all.1
 
 module _ {a : List ℕ} {t n p : ℕ} (live : Live a t n p) (k : ℕ) (r : Thread) (small : Small r) (low : k < t) where
   abbrev cell : ℕ

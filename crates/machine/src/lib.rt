@@ -30,7 +30,7 @@ use store::Store;
 
 // What a line may look at, the searches' tables left out: how many blocks there are, the levelling distance, and the words of H, of
 // the headers' owner, of number n and of blocks p and q; and the wear of the block that n is mapped to.
-#[derive(Drop)]
+#[derive(Clone, Copy)]
 struct Near {
     pub blocks: u32,
     pub distance: u32,
@@ -337,7 +337,7 @@ fn words_near<'a>(
 }
 
 // The sizes T, N and P of an area.
-#[derive(Drop)]
+#[derive(Clone, Copy)]
 pub struct Sizes {
     pub t: usize,
     pub n: usize,

@@ -25,14 +25,14 @@ pub const ROOM: usize = 9 * MOST_LINE;
 // ---- figures
 
 // What stands behind a label.
-#[derive(Drop)]
+#[derive(Clone, Copy)]
 enum Figure {
     Dash,
     Number(u64),
 }
 
 // What the lines on the wear show.
-#[derive(Drop)]
+#[derive(Clone, Copy)]
 struct Worn {
     least: Figure,
     most: Figure,

@@ -48,21 +48,21 @@ pub const ROOM: usize = 6 * MOST_INPUT + MOST_PRINTED;
 const PACK: u64 = 4294967296;
 
 // What stands at a place of a line: no number, or a number, and the place after it.
-#[derive(Drop)]
+#[derive(Clone, Copy)]
 enum Field {
     Missing,
     Read(u32, usize),
 }
 
 // The rest of a line: four fields, or anything else.
-#[derive(Drop)]
+#[derive(Clone, Copy)]
 enum Four {
     Fewer,
     All(u32, u32, u32, u32),
 }
 
 // A line: `f T N P D`, `b t op n c`, `s t`, or of another form.
-#[derive(Drop)]
+#[derive(Clone, Copy)]
 enum Command {
     Bad,
     Format(u32, u32, u32, u32),
@@ -71,7 +71,7 @@ enum Command {
 }
 
 // What stands at a place of an input: nothing; bytes with no newline after them; or a line, and the place of its newline.
-#[derive(Drop)]
+#[derive(Clone, Copy)]
 enum Line {
     End,
     Torn,
@@ -79,7 +79,7 @@ enum Line {
 }
 
 // What comes of a line: the run stops; or number and value of a reply, packed, and how many bytes the store then has.
-#[derive(Drop)]
+#[derive(Clone, Copy)]
 enum Turn {
     Stop,
     Reply(u64, usize),

@@ -20,7 +20,7 @@ use store::Store;
 
 // What was seen so far. Before the first block, `least` and `most` mean nothing.
 #[repr(C)]
-#[derive(Drop)]
+#[derive(Clone, Copy)]
 pub struct Tally {
     pub areas: u32,
     pub skipped: u32,
@@ -32,7 +32,7 @@ pub struct Tally {
 }
 
 // What comes of adding an area: number and value, packed, and the tally then.
-#[derive(Drop)]
+#[derive(Clone, Copy)]
 pub struct Addition {
     pub result: u64,
     pub tally: Tally,

@@ -117,10 +117,10 @@ record All (t : Tally) (those : List (List ℕ)) (after : Tally) : Type 0 where
 all_go :
     {t : Tally} (those : List (List ℕ)) → AllBytes those → Plausible t → t.areas + length those ≤ most_areas →
     All t those (add_all t those)
-all_go {t} [] bytes f few = record { turned = refl; plausible = f; areas = omega arith }
-all_go {t} (a ∷ rest) bytes f few =
+all_go {t = t} [] bytes f few = record { turned = refl; plausible = f; areas = omega arith }
+all_go {t = t} (a ∷ rest) bytes f few =
     let low : t.areas < most_areas = omega arith in
-    let after = all_go rest bytes.1 (area-plausible a bytes.0 f low) (omega (arith, area-more t a)) in
+    let after = all_go {t = with_area t a} rest bytes.1 (area-plausible a bytes.0 f low) (omega (arith, area-more t a)) in
     subst (λ r. All t (a ∷ rest) (add_all r.after rest)) (sym (goes f a low))
     (record { turned = after.turned; plausible = after.plausible; areas = omega (arith, after.areas, area-more t a) })
 

@@ -1,0 +1,12 @@
+-- The blocks passed have been added, and there is room for the others.
+use Rattle.std.proofs.Common.{◌≡◌, ◌-◌, ◌≤◌}
+use Rattle.store.specs.Area.{word}
+use Rattle.sheet.specs.Adding.{with_blocks}
+use Rattle.sheet.specs.Room.{Room, rows_of}
+use Rattle.sheet.proofs.with_blocks.Given as goal
+
+abbrev pub invariant-loop-k : goal.invariant-loop-k
+invariant-loop-k l = (l.k ≤ l.count) × (l.all ≡ with_blocks l.fn.t (rows_of (word l.area) l.from l.k)) × Room l.all (l.count - l.k)
+
+abbrev pub decreases-loop-k : goal.decreases-loop-k
+decreases-loop-k l = l.count - l.k

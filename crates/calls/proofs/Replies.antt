@@ -217,9 +217,9 @@ module _ {a : List ℕ} {k : ℕ} {z : Sizes} {v : Verdict} (j : Judged a k z v)
 
 -- ---- what the machine leaves is what its store encodes to
 
-pub stored_encoded : {a b : List ℕ} {t n p : ℕ} {s : Store} → Stored a b t n p s → Bytes a → b ≡ encode s
+pub stored_encoded : {a b : List ℕ} {t n p : ℕ} {s : Store} → Stored a b t n p s → Bytes b → b ≡ encode s
 stored_encoded {b = b} r h =
-    sym (encode-decode b (r.bytes h) (r.live.fits ∙ (λ i. size (sym r.live.threads i) (sym r.live.numbers i) (sym r.live.blocks i))))
+    sym (encode-decode b h (r.live.fits ∙ (λ i. size (sym r.live.threads i) (sym r.live.numbers i) (sym r.live.blocks i))))
     ∙ ap encode r.decoded
 
 -- ---- format

@@ -34,19 +34,38 @@ judge-requires c =
     judge_asks opened c.thread_at-r.ensures c.if-r-eq0.false
 
 pub returns-in-Blocked : goal.returns-in-Blocked
-returns-in-Blocked c = ?
+returns-in-Blocked c =
+    let opened = opens c.well_formed-2.ensures (ap not c.if-not-well_formed.false) c.sizes-z.ensures c.if-z-k.false in
+    let judged = judges opened c.thread_at-r.ensures c.if-r-eq0.false c.judge.ensures in
+    reply_meets BLOCKED 0 (step-told judged c.in-Blocked.is) c.pack-in-Blocked.ensures refl
 
 pub returns-in-Fault : goal.returns-in-Fault
-returns-in-Fault c = ?
+returns-in-Fault c =
+    let opened = opens c.well_formed-2.ensures (ap not c.if-not-well_formed.false) c.sizes-z.ensures c.if-z-k.false in
+    let judged = judges opened c.thread_at-r.ensures c.if-r-eq0.false c.judge.ensures in
+    reply_meets FAULT 0 (step-told judged c.in-Fault.is) c.pack-in-Fault.ensures refl
 
 pub settle-requires : goal.settle-requires
-settle-requires c = ?
+settle-requires c =
+    let opened = opens c.well_formed-2.ensures (ap not c.if-not-well_formed.false) c.sizes-z.ensures c.if-z-k.false in
+    let judged = judges opened c.thread_at-r.ensures c.if-r-eq0.false c.judge.ensures in
+    settle_go judged c.in-Go.is
 
-pub settle-requires-2 : goal.settle-requires-2
-settle-requires-2 c = ?
+pub settle-requires-in-Done : goal.settle-requires-in-Done
+settle-requires-in-Done c =
+    let opened = opens c.well_formed-2.ensures (ap not c.if-not-well_formed.false) c.sizes-z.ensures c.if-z-k.false in
+    let judged = judges opened c.thread_at-r.ensures c.if-r-eq0.false c.judge.ensures in
+    settle_done judged c.in-Done.is
 
 pub returns-in-Go : goal.returns-in-Go
-returns-in-Go c = ?
+returns-in-Go c =
+    let opened = opens c.well_formed-2.ensures (ap not c.if-not-well_formed.false) c.sizes-z.ensures c.if-z-k.false in
+    let judged = judges opened c.thread_at-r.ensures c.if-r-eq0.false c.judge.ensures in
+    reply_meets WENT 0 (step-told judged c.in-Go.is) c.pack-in-Go.ensures (stored_encoded c.settle.ensures λ i. (c.type_inv.area i).fits)
 
 pub returns-in-Done : goal.returns-in-Done
-returns-in-Done c = ?
+returns-in-Done c =
+    let opened = opens c.well_formed-2.ensures (ap not c.if-not-well_formed.false) c.sizes-z.ensures c.if-z-k.false in
+    let judged = judges opened c.thread_at-r.ensures c.if-r-eq0.false c.judge.ensures in
+    reply_meets FINISHED c.in-Done.value (step-told judged c.in-Done.is) c.pack-in-Done.ensures
+    (stored_encoded (rw c.idle.ensures at c.settle-in-Done.ensures) λ i. (c.type_inv.area i).fits)

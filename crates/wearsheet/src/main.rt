@@ -4,12 +4,15 @@
 // page of what was added is printed.
 #![tactic(auto)]
 
-ghost use Rattle.std.specs.Prelude.{◌≡◌};
-ghost use Rattle.io.specs.Counts.{IsPrefixLen};
+ghost use Rattle.std.specs.Prelude.{◌≡◌, ◌≤◌, length};
 ghost use Rattle.sheet.specs.Adding.{add_area};
 
-use libc::{STDERR_FILENO, STDOUT_FILENO};
 use sheet::{Addition, Tally};
+use std::env::{Env, FillError};
+use std::fmt::InlineText;
+use std::fs::{self, Files};
+use std::io::{self, ErrorKind, Read, Write};
+use std::str;
 use store::Store;
 
 // A byte more than the longest area has, by which a longer file shows.
@@ -18,15 +21,15 @@ const MOST_READ: usize = Store::LONGEST + 1;
 // A call's result is its number times this, and its value added.
 const PACK: u64 = 4294967296;
 
-// What was read of a file: whether a read failed, and how many bytes came before that.
-#[derive(Drop)]
+// What was read of a file: how many bytes, and why a read failed after them, if one did.
+#[derive(Clone, Copy)]
 struct Got {
-    failed: bool,
+    failed: Option<io::Error>,
     count: usize,
 }
 
 // What comes of an argument: the tally then, and whether more files are read.
-#[derive(Drop)]
+#[derive(Clone, Copy)]
 struct Turn {
     tally: Tally,
     more: bool,
@@ -34,50 +37,63 @@ struct Turn {
 
 // ---- standard error
 
-// A file's name, and what there is to say of it.
-fn say(name: &[u8], what: &[u8]) {
-    io::write_all(STDERR_FILENO, name);
-    io::write_all(STDERR_FILENO, what);
+// What can't be written there is lost.
+fn say(to: &mut impl Write, name: &[u8], what: &[u8]) {
+    to.write_all(name).ok();
+    to.write_all(what).ok();
 }
 
-fn say_refused(name: &[u8], res: u64) {
-    say(name, b": refused with ");
-    io::print_decimal(STDERR_FILENO, res / PACK);
+fn say_refused(to: &mut impl Write, name: &[u8], res: u64) {
+    say(to, name, b": refused with ");
+    write!(to, "{}", res / PACK).ok();
     if res == sheet::FULL {
-        io::write_all(STDERR_FILENO, b" (FULL): the sheet has its 200 areas");
+        to.write_all(b" (FULL): the sheet has its 200 areas").ok();
     }
-    io::write_all(STDERR_FILENO, b"; no more files are read\n");
+    to.write_all(b"; no more files are read\n").ok();
+}
+
+// The system's reason alone, of an error as it is shown, which has its code behind it.
+fn reason_of(shown: &str) -> &str {
+    match shown.rsplit_once(" (os error ") {
+        Some((reason, _)) => reason,
+        None => shown,
+    }
+}
+
+fn say_why(to: &mut impl Write, name: &[u8], why: io::Error) {
+    let shown = InlineText::<300>::of(why);
+    let reason = reason_of(shown.as_str());
+    say(to, name, b": ");
+    say(to, reason.as_bytes(), b"\n");
 }
 
 // ---- a file
 
 // Reads until the buffer is full, the file ends or a read fails.
-fn read_area(fd: i32, area: &mut [u8]) -> Got
-    ensures { IsPrefixLen result.count area.new }
+fn read_area(file: &mut impl Read, area: &mut [u8]) -> Got
+    ensures { result.count ≤ length area.new }
 {
     let mut count: usize = 0;
     while count < area.len() {
-        let got = libc::read(fd, &mut area[count..]);
-        if got < 0 {
-            return Got {
-                failed: true,
-                count,
-            };
+        match file.read(&mut area[count..]) {
+            Ok(0) => break,
+            Ok(more) => count += more,
+            Err(why) => {
+                return Got {
+                    failed: Some(why),
+                    count,
+                };
+            }
         }
-        let more = io::count(got, &area[count..]);
-        if more == 0 {
-            break;
-        }
-        count += more;
     }
     Got {
-        failed: false,
+        failed: None,
         count,
     }
 }
 
 // Adds what was read of a file, and says if it was skipped or refused.
-fn add_bytes(tally: Tally, name: &[u8], area: &[u8]) -> Turn
+fn add_bytes(to: &mut impl Write, tally: Tally, name: &[u8], area: &[u8]) -> Turn
     ensures { result.tally ≡ (add_area tally area.now).after }
 {
     let Addition {
@@ -85,16 +101,16 @@ fn add_bytes(tally: Tally, name: &[u8], area: &[u8]) -> Turn
         tally: after,
     } = sheet::added(tally, area);
     if result != 0 {
-        say_refused(name, result);
+        say_refused(to, name, result);
         return Turn {
             tally: after,
             more: false,
         };
     }
     if Store::LONGEST < area.len() {
-        say(name, b": too long for an area, skipped\n");
+        say(to, name, b": too long for an area, skipped\n");
     } else if tally.skipped < after.skipped {
-        say(name, b": malformed, skipped\n");
+        say(to, name, b": malformed, skipped\n");
     }
     Turn {
         tally: after,
@@ -102,59 +118,63 @@ fn add_bytes(tally: Tally, name: &[u8], area: &[u8]) -> Turn
     }
 }
 
-// Adds a file, if it can be read. The reason why not is asked for before the file is closed.
-fn add_file(tally: Tally, name: &[u8]) -> Turn {
-    let fd = os::open_read(name);
-    if fd < 0 {
-        os::fail(name);
-        return Turn { tally, more: true };
+// The file of that name. One whose name is no UTF-8 can't be named to the system.
+fn open_file<R: Files>(rt: &R, name: &[u8]) -> io::Result<R::File> {
+    match str::from_utf8(name) {
+        Ok(path) => fs::open(rt, path),
+        Err(_) => Err(io::Error::new(ErrorKind::InvalidInput, "the name is not UTF-8")),
     }
+}
+
+// Adds a file, if it can be read.
+fn add_file<R: Files>(rt: &R, to: &mut impl Write, tally: Tally, name: &[u8]) -> Turn {
+    let mut file = match open_file(rt, name) {
+        Ok(file) => file,
+        Err(why) => {
+            say_why(to, name, why);
+            return Turn { tally, more: true };
+        }
+    };
     let mut area = [0u8; MOST_READ];
-    let got = read_area(fd, &mut area);
-    if got.failed {
-        os::fail(name);
-        libc::close(fd);
-        return Turn { tally, more: true };
+    let got = read_area(&mut file, &mut area);
+    match got.failed {
+        Some(why) => {
+            say_why(to, name, why);
+            Turn { tally, more: true }
+        }
+        None => add_bytes(to, tally, name, &area[..got.count]),
     }
-    libc::close(fd);
-    let count = got.count;
-    add_bytes(tally, name, &area[..count])
 }
 
 // ---- the arguments
 
-// An argument is a file's name. One that is too long for any name is shown by its first bytes.
-fn add_argument(tally: Tally, i: usize) -> Turn {
-    let mut name = io::buffer();
-    let length = os::arg(i, &mut name);
-    if os::errno() != 0 {
-        os::fail(&name);
-        return Turn { tally, more: true };
-    }
-    add_file(tally, &name[..length])
-}
-
-// All arguments in turn. Argument 0 is the program's own name.
-fn add_arguments() -> Tally {
-    let count = os::arg_count();
+// All arguments in turn, which are names of files. Argument 0 is the program's own. One that is too long for any name is shown by its first bytes.
+fn add_arguments<R: Env + Files>(rt: &R, to: &mut impl Write) -> Tally {
     let mut tally = sheet::zeros();
-    let mut i: usize = 1;
-    while i < count {
-        let turn = add_argument(tally, i);
-        tally = turn.tally;
-        if !turn.more {
-            break;
+    let mut name = [0u8; 4096];
+    for i in 1..usize::MAX {
+        match rt.arg(i, &mut name) {
+            Ok(length) => {
+                let turn = add_file(rt, to, tally, &name[..length]);
+                tally = turn.tally;
+                if !turn.more {
+                    break;
+                }
+            }
+            Err(FillError::TooLong) => say(to, &name, b": File name too long\n"),
+            Err(FillError::NotPresent) => break,
         }
-        i += 1;
     }
     tally
 }
 
-fn main() {
-    let tally = add_arguments();
+fn main(rt: HostRuntime) {
+    let mut err = rt.stderr();
+    let tally = add_arguments(&rt, &mut err);
     let mut out = [0u8; page::ROOM];
     let end = page::put_page(&mut out, tally);
-    if !io::write_all(STDOUT_FILENO, &out[..end]) {
-        os::fail(b"standard output");
+    match rt.stdout().write_all(&out[..end]) {
+        Ok(()) => {}
+        Err(why) => say_why(&mut err, b"standard output", why),
     }
 }

@@ -1,0 +1,9 @@
+-- What came fits the buffer.
+use Rattle.std.proofs.Common.{length, ◌-◌, ◌≤◌}
+use Rattle.wearsheet.proofs.read_area.Given as goal
+
+abbrev pub invariant-loop-count : goal.invariant-loop-count
+invariant-loop-count g l = l.count ≤ length l.area
+
+abbrev pub decreases-loop-count : goal.decreases-loop-count
+decreases-loop-count g l = length l.area - l.count

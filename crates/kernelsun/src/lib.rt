@@ -29,7 +29,7 @@ pub extern "C" fn step(area: &mut [u8], thread: u32) -> u64
     calls::step(area, thread)
 }
 
-// The tally is lent by reference, so this one is proved by a walk by hand (proofs/add_area); all that it does is to hand on.
+// The tally is lent by reference; all that this one does is to hand it on.
 #[unsafe(no_mangle)]
 pub extern "C" fn add_area(tally: &mut Tally, area: &[u8]) -> u64
     ensures { AddMeans tally.old area.now result tally.new }

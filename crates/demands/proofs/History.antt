@@ -16,7 +16,7 @@ use Rattle.meaning.specs.Limits.{most_word, in_limits}
 use Rattle.meaning.specs.Store.{Store, idle, fresh}
 use Rattle.meaning.specs.Programs.{WRITE, LEVEL}
 use Rattle.meaning.specs.Call.{Entry, begin, step, call_store, stored_n, stored_c}
-use Rattle.meaning.specs.Schedule.{Operation, operation, emit, takes_last, replies, order, steps, longest, whole, serial}
+use Rattle.meaning.specs.Schedule.{Operation, operation, emit, takes_last, order, steps, longest, whole, serial}
 use Rattle.meaning.proofs.Base.Words.{either_way}
 use Rattle.store.specs.Area.{decode}
 use Rattle.store.specs.Calls.{call_area, Formatted}

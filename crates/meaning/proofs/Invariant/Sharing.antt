@@ -4,18 +4,17 @@
 use mathlib.Core.Path.{◌≡◌, refl, sym, ◌∙◌, subst}
 use mathlib.Core.Bool.{Bool, true, false, ◌&&◌, ◌||◌, and-true}
 use mathlib.Core.Logic.{inl, inr}
-use Prim.Native.Nat.{ℕ, ◌+◌, ◌<◌, ◌≤◌}
-use native.Mathlib.Omega.{arith}
+use Prim.Native.Nat.{ℕ, ◌<◌, ◌≤◌}
 use lib.Dec.{eqb}
 use borrow.Author.Tests.{eqb-true}
 use Rattle.meaning.specs.declared.Kind.{Kind}
 use Rattle.meaning.specs.declared.Kind.TheVariants.{Reader, Writer}
 use Rattle.meaning.specs.declared.Found.TheVariants.{At}
-use Rattle.meaning.specs.Limits.{least, most_threads, most_numbers, most_blocks, most_distance, within, in_limits}
+use Rattle.meaning.specs.Limits.{most_threads}
 use Rattle.meaning.specs.Store.{Store}
 use Rattle.meaning.specs.Holding.{none, free, held_by, held, admits, naming}
 use Rattle.meaning.specs.Choosing.{lowest_free, to_block}
-use Rattle.meaning.proofs.Base.Words.{same, clash, and_left, and_right, or_way, within_true, free-held, held_once, alone-free, free-none, naming_once, naming_not_none}
+use Rattle.meaning.proofs.Base.Words.{same, clash, and_left, and_right, or_way, free-held, held_once, alone-free, free-none, naming_once, naming_not_none}
 use Rattle.meaning.proofs.Base.Sets.{same_kind, both_read, writer-alone, admits-unless}
 use Rattle.meaning.proofs.Invariant.{kind, holds_h, holds_n, owns_headers, owns_p, owns_q, n_on_p, n_on_q, p-free, q-free, p-headed, q-headed, p-astray, q-astray, If, leads_astray, GuardsContent, Back, Astray, Inv}
 use Rattle.meaning.proofs.Invariant.Keeping.{limits_say, up}

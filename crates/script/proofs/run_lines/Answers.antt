@@ -1,5 +1,5 @@
 -- The end of the input, and a line that was answered.
-use Rattle.std.proofs.Common.{◌≡◌, ◌∙◌, sym, ap, arith, ◌-◌, take, drop}
+use Rattle.std.proofs.Common.{◌≡◌, ◌∙◌, sym, ap, ◌-◌, take, drop}
 use Rattle.script.specs.Syntax.{command}
 use Rattle.script.specs.Output.{replied, heard}
 use Rattle.script.specs.Positions.{taken}

@@ -38,8 +38,8 @@ lock_of_at = locks_at 2 1
 abbrev pub header_at : ℕ → ℕ
 header_at m = blocks_at 2 1 + block_words * m
 
-abbrev pub field_own : ℕ → ℕ
-field_own m = header_at m + 3
+abbrev pub own_at : ℕ → ℕ
+own_at m = header_at m + 3
 
 -- places, and the words that stand there
 abbrev pub Written : Type 0
@@ -119,13 +119,13 @@ takes lets = record { samples = lets ∷ []; number = WENT; otherwise = BLOCKED 
 
 -- 01, "A line's needs", with 02, §3: of the lines that write a content or read one, and of those that write a header
 abbrev pub content_needs : ℕ → List Sample
-content_needs m = written (field_own m) ∷ used m ∷ []
+content_needs m = written (own_at m) ∷ used m ∷ []
 
 abbrev pub reading_needs : ℕ → List Sample
-reading_needs m = read_or_written (field_own m) ∷ used m ∷ []
+reading_needs m = read_or_written (own_at m) ∷ used m ∷ []
 
 abbrev pub header_needs : ℕ → List Sample
-header_needs m = held owner_at ∷ written (field_own m) ∷ []
+header_needs m = held owner_at ∷ written (own_at m) ∷ []
 
 -- ---- the rows, in the lines' order
 
@@ -136,16 +136,16 @@ write_needs =
     ∷ goes []  -- W3
     ∷ goes (nobodys owner_at ∷ [])  -- W4
     ∷ goes (held owner_at ∷ some_free ∷ [])  -- W5
-    ∷ goes (lets_writer (field_own in_p) ∷ [])  -- W6
+    ∷ goes (lets_writer (own_at in_p) ∷ [])  -- W6
     ∷ goes (header_needs in_p)  -- W7
     ∷ goes (content_needs in_p)  -- W8
-    ∷ goes (written (field_own in_p) ∷ [])  -- W9
+    ∷ goes (written (own_at in_p) ∷ [])  -- W9
     ∷ goes []  -- W10
     ∷ goes (held owner_at ∷ [])  -- W11
     ∷ goes (held lock_at ∷ [])  -- W12
-    ∷ goes (lets_writer (field_own in_p) ∷ [])  -- W13
+    ∷ goes (lets_writer (own_at in_p) ∷ [])  -- W13
     ∷ goes (content_needs in_p)  -- W14
-    ∷ goes (written (field_own in_p) ∷ [])  -- W15
+    ∷ goes (written (own_at in_p) ∷ [])  -- W15
     ∷ finishes (written lock_of_at ∷ [])  -- W16
     ∷ []
 
@@ -153,9 +153,9 @@ abbrev pub read_needs : List Row
 read_needs =
     takes (lets_reader lock_of_at)  -- R1
     ∷ goes []  -- R2
-    ∷ goes (lets_reader (field_own in_p) ∷ [])  -- R3
+    ∷ goes (lets_reader (own_at in_p) ∷ [])  -- R3
     ∷ goes (reading_needs in_p)  -- R4
-    ∷ goes (read (field_own in_p) ∷ [])  -- R5
+    ∷ goes (read (own_at in_p) ∷ [])  -- R5
     ∷ finishes (read lock_of_at ∷ [])  -- R6
     ∷ []
 
@@ -165,10 +165,10 @@ unmap_needs =
     ∷ takes (lets_writer lock_of_at)  -- U2
     ∷ goes []  -- U3
     ∷ goes (nobodys owner_at ∷ [])  -- U4
-    ∷ goes (lets_writer (field_own in_p) ∷ [])  -- U5
+    ∷ goes (lets_writer (own_at in_p) ∷ [])  -- U5
     ∷ goes []  -- U6
     ∷ goes (header_needs in_p)  -- U7
-    ∷ goes (written (field_own in_p) ∷ [])  -- U8
+    ∷ goes (written (own_at in_p) ∷ [])  -- U8
     ∷ goes (held owner_at ∷ [])  -- U9
     ∷ goes (written lock_of_at ∷ [])  -- U10
     ∷ finishes (held lock_at ∷ [])  -- U11
@@ -182,15 +182,15 @@ level_needs =
     ∷ goes (held owner_at ∷ [])  -- L4
     ∷ goes []  -- L5
     ∷ takes (lets_writer lock_of_at)  -- L6
-    ∷ goes (lets_writer (field_own in_p) ∷ [])  -- L7
+    ∷ goes (lets_writer (own_at in_p) ∷ [])  -- L7
     ∷ goes (reading_needs in_p)  -- L8
-    ∷ goes (lets_writer (field_own in_q) ∷ [])  -- L9
+    ∷ goes (lets_writer (own_at in_q) ∷ [])  -- L9
     ∷ goes (header_needs in_q)  -- L10
     ∷ goes (content_needs in_q)  -- L11
     ∷ goes []  -- L12
     ∷ goes (header_needs in_p)  -- L13
-    ∷ goes (written (field_own in_q) ∷ [])  -- L14
-    ∷ goes (written (field_own in_p) ∷ [])  -- L15
+    ∷ goes (written (own_at in_q) ∷ [])  -- L14
+    ∷ goes (written (own_at in_p) ∷ [])  -- L15
     ∷ goes (written lock_of_at ∷ [])  -- L16
     ∷ goes (held owner_at ∷ [])  -- L17
     ∷ finishes (held lock_at ∷ [])  -- L18

@@ -4,7 +4,7 @@
 // page of what was added is printed.
 #![tactic(auto)]
 
-ghost use Rattle.std.specs.Prelude.{◌≡◌, ◌≤◌, length};
+ghost use Rattle.std.specs.Prelude.{◌≡◌, ◌≤◌, length, take};
 ghost use Rattle.sheet.specs.Adding.{add_area};
 
 use sheet::{Addition, Tally};
@@ -71,7 +71,7 @@ fn say_why(to: &mut impl Write, name: &[u8], why: io::Error) {
 
 // Reads until the buffer is full, the file ends or a read fails.
 fn read_area(file: &mut impl Read, area: &mut [u8]) -> Got
-    ensures { result.count ≤ length area.new }
+    ensures { (result.count ≤ length area.new) × (result.count ≡ length (take result.count area.new)) }
 {
     let mut count: usize = 0;
     while count < area.len() {
@@ -148,21 +148,27 @@ fn add_file<R: Files>(rt: &R, to: &mut impl Write, tally: Tally, name: &[u8]) ->
 
 // ---- the arguments
 
-// All arguments in turn, which are names of files. Argument 0 is the program's own. One that is too long for any name is shown by its first bytes.
+// An argument is a file's name. One that is too long for any name is shown by its first bytes. After the last argument no more files are read.
+fn add_argument<R: Env + Files>(rt: &R, to: &mut impl Write, tally: Tally, i: usize) -> Turn {
+    let mut name = [0u8; 4096];
+    match rt.arg(i, &mut name) {
+        Ok(length) => add_file(rt, to, tally, &name[..length]),
+        Err(FillError::TooLong) => {
+            say(to, &name, b": File name too long\n");
+            Turn { tally, more: true }
+        }
+        Err(FillError::NotPresent) => Turn { tally, more: false },
+    }
+}
+
+// All arguments in turn. Argument 0 is the program's own name.
 fn add_arguments<R: Env + Files>(rt: &R, to: &mut impl Write) -> Tally {
     let mut tally = sheet::zeros();
-    let mut name = [0u8; 4096];
     for i in 1..usize::MAX {
-        match rt.arg(i, &mut name) {
-            Ok(length) => {
-                let turn = add_file(rt, to, tally, &name[..length]);
-                tally = turn.tally;
-                if !turn.more {
-                    break;
-                }
-            }
-            Err(FillError::TooLong) => say(to, &name, b": File name too long\n"),
-            Err(FillError::NotPresent) => break,
+        let turn = add_argument(rt, to, tally, i);
+        tally = turn.tally;
+        if !turn.more {
+            break;
         }
     }
     tally

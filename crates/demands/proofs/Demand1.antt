@@ -2,14 +2,14 @@
 --  * refusals: each refusal number comes back exactly where the table of 01, "Numbers given back", says; for every area and argument.
 --  * refusal-keeps: where the number is 2 or more, and so where it is BLOCKED, each byte stays; for every area and argument.
 --  * unfinished-value: format, begin and a step that finishes nothing give the value 0; for every area and argument.
---  * finishing-values: what a finishing step gives: a write and an unmap 0, a read register c, a levelling 1 where h isn't free and else 0;
+--  * finishing_values: what a finishing step gives: a write and an unmap 0, a read register c, a levelling 1 where h isn't free and else 0;
 --    for every area.
---  * wear-counted, wear-never-falls: a block's wear goes up by one exactly where a step frees it, or at W3 finds n mapped to it, until the largest word, and
+--  * wear-counted, wear_never_falls: a block's wear goes up by one exactly where a step frees it, or at W3 finds n mapped to it, until the largest word, and
 --    no begin or step lowers it; of every area of bytes, grown or made by hand.
 --  * formed-kept: an area that was well formed, grown from fresh or made by hand, is so after every begin and step.
 --  * sizes-kept, grown-sizes: no begin or step changes T, N, P or D.
---  * grown-well-formed, grown-no-shape: an area grown from fresh is well formed, so no call on it answers SHAPE.
---  * grown-no-fault: no step of an area grown from fresh answers FAULT.
+--  * grown_well_formed, grown_no_shape: an area grown from fresh is well formed, so no call on it answers SHAPE.
+--  * grown_no_fault: no step of an area grown from fresh answers FAULT.
 --  * grown-progress: where some thread of an area grown from fresh has open work, some thread that has can step.
 -- What FAULT, BLOCKED and open threads look like is computed in Reached.
 use mathlib.Core.Path.{◌≡◌, refl, sym, ◌∙◌, subst}

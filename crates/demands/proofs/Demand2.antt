@@ -1,19 +1,19 @@
 -- DEMAND 2, over areas of bytes: of an area that a format left which gave WENT, and of every schedule of words, finished or not.
---  * area-manager-answers: the atomic manager, obeying the operations in the order of their last locks, answers each thread what its
+--  * area_manager_answers: the atomic manager, obeying the operations in the order of their last locks, answers each thread what its
 --    reads, writes and unmaps have finished with, in order, and then at most the answer of its open operation.
 --  * area-linearizable: the schedule is linearizable as Herlihy and Wing (1990) define it: what each thread asks and is answered is what
 --    that order says, and what has finished before another operation is begun stands before it (`real_time`).
 --    How their definition is met field by field is said at the head of the crate meaning's proofs/Manager/Linearizable.
---  * area-real-time: that last part by itself. Request i of thread u has finished within v, request i' of thread u' has not begun there.
---  * area-in-real-time: the same of all operations, levellings too.
---  * area-read-gives: a read that has finished gave the word of the last write of its number before it in that order, and 0 if an
+--  * area_real_time: that last part by itself. Request i of thread u has finished within v, request i' of thread u' has not begun there.
+--  * area_in_real_time: the same of all operations, levellings too.
+--  * area_read_gives: a read that has finished gave the word of the last write of its number before it in that order, and 0 if an
 --    unmap came after that write or if there is none.
---  * area-manager-holds: what a number's block holds is what the manager holds of it, wherever no write and no unmap has its lock;
---    so where all threads are idle, of every number (area-manager-holds-rest).
---  * area-manager-maps, area-manager-maps-rest: there a number is mapped exactly where it is in the manager's mapped set. A read tells no
+--  * area_manager_holds: what a number's block holds is what the manager holds of it, wherever no write and no unmap has its lock;
+--    so where all threads are idle, of every number (area_manager_holds_rest).
+--  * area_manager_maps, area_manager_maps_rest: there a number is mapped exactly where it is in the manager's mapped set. A read tells no
 --    difference between a written 0 and an unmapped number; the map does.
---  * grown-one-block-each: two numbers never share a block.
---  * grown-first-write-empty: a thread that has done W8, of a grown area, has empty in its block until it does W14, whoever steps between.
+--  * grown_one_block_each: two numbers never share a block.
+--  * grown_first_write_empty: a thread that has done W8, of a grown area, has empty in its block until it does W14, whoever steps between.
 -- The definitions are those of the crate meaning, specs/Demands and specs/Manager. Assumes nothing.
 use mathlib.Core.Path.{◌≡◌, refl, sym, ap, ◌∙◌, subst}
 use mathlib.Core.Bool.{true, false}

@@ -1,8 +1,8 @@
 -- DEMAND 3, first half, over areas of bytes: two threads of an area grown from fresh that can both step, and whose next lines don't take the
 -- same lock unless both take it for reading, may step in either order. Each gives the same number and value, and the bytes at the end are the same.
---  * grown-either-order: that.
---  * grown-readers-pass: so may two threads that are about to take a number's lock for reading.
---  * grown-same-lock-blocks: the exception is needed. Where it holds, whoever comes second is BLOCKED.
+--  * grown_either_order: that.
+--  * grown_readers_pass: so may two threads that are about to take a number's lock for reading.
+--  * grown_same_lock_blocks: the exception is needed. Where it holds, whoever comes second is BLOCKED.
 -- Where either order is met in the middle of two operations is computed in Reached.
 -- Assumes nothing.
 use mathlib.Core.Path.{◌≡◌, refl, sym, ◌∙◌, subst}

@@ -1,17 +1,17 @@
 -- DEMAND 3, second half, over areas of bytes: of an area that a format left which gave WENT, and of every schedule of words. (The first
 -- half is Demand3a.)
---  * area-one-at-a-time: where all threads are idle after the schedule, the bytes are those that the operations leave which are run whole,
+--  * area_one_at_a_time: where all threads are idle after the schedule, the bytes are those that the operations leave which are run whole,
 --    one after the other, in the order of their last locks; and each thread's operations have answered the same.
---  * area-answers-so-far: before that, finished or not, what a thread has finished with are the first of its answers in that run, and at
+--  * area_answers_so_far: before that, finished or not, what a thread has finished with are the first of its answers in that run, and at
 --    most one is left, that of its open operation.
---  * area-serial-whole: in that run each operation is begun, goes and finishes, and the steps that are left find its thread idle: nothing
+--  * area_serial_whole: in that run each operation is begun, goes and finishes, and the steps that are left find its thread idle: nothing
 --    there is blocked or refused before its end.
---  * area-each-once: a thread's operations in that order are those that it has begun, each once, but for one at most that has no place
+--  * area_each_once: a thread's operations in that order are those that it has begun, each once, but for one at most that has no place
 --    yet; and all of them are finished, but for one at most that is open.
 -- And of every area grown from fresh:
---  * grown-last-takes: a step that takes an operation's last lock takes a lock.
---  * grown-last-is-last: after it, whatever is called, the operation takes no lock and can step, until it finishes.
---  * grown-place-changes: an operation gains its place exactly by the step that takes its last lock, and loses it exactly by the one that
+--  * grown_last_takes: a step that takes an operation's last lock takes a lock.
+--  * grown_last_is_last: after it, whatever is called, the operation takes no lock and can step, until it finishes.
+--  * grown_place_changes: an operation gains its place exactly by the step that takes its last lock, and loses it exactly by the one that
 --    finishes it. So none finishes before its last lock.
 -- The definitions are those of the crate meaning, specs/Schedule and specs/Demands, and of specs/LastLock. Assumes nothing.
 use mathlib.Core.Path.{◌≡◌, refl, sym, ap, ◌∙◌, subst}

@@ -1,8 +1,8 @@
 -- 01, "Where a reasonable person goes wrong", over areas grown from fresh. Assumes nothing.
---  * grown-headers-agree: where nobody owns the headers, every mapped header agrees with the map, and every entry of the map with its
+--  * grown_headers_agree: where nobody owns the headers, every mapped header agrees with the map, and every entry of the map with its
 --    block's header.
---  * grown-headers-between: they agree exactly where no thread stands between W7 and W10, between U6 and U7 or between L10 and L13.
---  * grown-wear-under-H: a call that changes some block's wear is a step of a thread that holds H before it and after it.
+--  * grown_headers_between: they agree exactly where no thread stands between W7 and W10, between U6 and U7 or between L10 and L13.
+--  * grown_wear_under_h: a call that changes some block's wear is a step of a thread that holds H before it and after it.
 use mathlib.Core.Path.{◌≡◌, sym, subst}
 use mathlib.Core.Bool.{true, false}
 use mathlib.Core.List.{List}

@@ -1,15 +1,15 @@
 -- Computed: what the demands speak of is there.
 --  * needs-fault: each line goes on an area made by hand that has what the line needs, and meets FAULT (a take: BLOCKED) where one thing of it is
 --    lacking; both where all else is free and where all else is the thread's.
---  * meetings-come, meetings-grown: areas grown from fresh where two threads are open at once. In the middle of a write and of a levelling
+--  * meetings_come, meetings-grown: areas grown from fresh where two threads are open at once. In the middle of a write and of a levelling
 --    that moves a block they step in either order, to the same bytes, and so they do at a take of one lock for reading; where both are at a take of
 --    one lock and not both for reading, whoever comes second is BLOCKED, and the bytes are others.
 --  * overtaking-comes: a read that overtakes a write is before it in the order of last locks and gives empty; the bytes are those of
 --    the operations run one at a time in that order.
---  * after-U10-comes: a read finishes with empty when U10 is done and U11 isn't, and stands after the unmap in the order.
---  * reuse-comes, reuse-grown: an area grown from fresh at W8 of a write whose block still holds what was written before it was freed; W8
+--  * after_u10_comes: a read finishes with empty when U10 is done and U11 isn't, and stands after the unmap in the order.
+--  * reuse_comes, reuse_grown: an area grown from fresh at W8 of a write whose block still holds what was written before it was freed; W8
 --    empties it, and it is empty until W14.
---  * largest-wear-stays, rewriting-wears, finished-with, ties-chosen: on areas made by hand, U7 and L13 leave the largest wear as it is, and the one
+--  * largest_wear_stays, rewriting-wears, finished-with, ties_chosen: on areas made by hand, U7 and L13 leave the largest wear as it is, and the one
 --    below goes up to it; W3 wears the block that the map names, and no other; what each operation finishes with, with 7 in register c; and L3 chooses
 --    the lowest numbers on ties.
 -- Assumes nothing.

@@ -49,7 +49,7 @@ pub data Sight : Type 0 where
   all-wear : Sight
   content_of_p : Sight
 
--- which block it wears; block-of-n is the one that n is mapped to, if there is one
+-- which block it wears; block_of_n is the one that n is mapped to, if there is one
 pub data Wears : Type 0 where
   no_block : Wears
   block-p : Wears

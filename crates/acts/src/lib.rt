@@ -10,9 +10,7 @@ ghost use Rattle.meaning.specs.Programs.{act_at, last_line};
 ghost use Rattle.meaning.specs.Step.{goto as goto_of, onward as onward_of, set_n, set_c, set_p, set_q, set_h, block as block_of, effect as effect_of, nothing as nothing_of, on_lock, on_owner, on_map, on_locks, on_header, on_content, on_wear, on_freed, on_own, need as need_of, take as take_of, next as next_of, branch as branch_of, worn as worn_of, moved as moved_of, answer as answer_of};
 
 use meaning::Pass::Leave;
-use meaning::Update::{Keep, Put};
-use meaning::Word::{Become, Stay};
-use meaning::{Act, Answer, Effect, Kind, Pass, Reg, SETS, Thread, Update, Verdict, Word};
+use meaning::{Act, Answer, Effect, Kind, Pass, Reg, SETS, Thread, Verdict};
 
 // The largest word, at which wear stays.
 const MOST_WORD: u32 = 4294967295;
@@ -209,13 +207,13 @@ pub fn admits(k: Kind, t: u32, w: u32) -> bool
 // ---- effects
 
 fn effect(
-    lock: Word,
-    owner: Word,
-    map: Update,
+    lock: Option<u32>,
+    owner: Option<u32>,
+    map: Option<(u32, u32)>,
     locks: Pass,
-    header: Update,
-    content: Update,
-    wear: Update,
+    header: Option<(u32, u32)>,
+    content: Option<(u32, u32)>,
+    wear: Option<(u32, u32)>,
     own: Pass,
 ) -> Effect
     ensures { result ≡ effect_of lock owner map locks header content wear own }
@@ -235,61 +233,61 @@ fn effect(
 pub fn nothing() -> Effect
     ensures { result ≡ nothing_of }
 {
-    effect(Stay, Stay, Keep, Leave, Keep, Keep, Keep, Leave)
+    effect(None, None, None, Leave, None, None, None, Leave)
 }
 
 pub fn on_lock(w: u32) -> Effect
     ensures { result ≡ on_lock w }
 {
-    effect(Become(w), Stay, Keep, Leave, Keep, Keep, Keep, Leave)
+    effect(Some(w), None, None, Leave, None, None, None, Leave)
 }
 
 pub fn on_owner(w: u32) -> Effect
     ensures { result ≡ on_owner w }
 {
-    effect(Stay, Become(w), Keep, Leave, Keep, Keep, Keep, Leave)
+    effect(None, Some(w), None, Leave, None, None, None, Leave)
 }
 
 pub fn on_map(n: u32, w: u32) -> Effect
     ensures { result ≡ on_map n w }
 {
-    effect(Stay, Stay, Put(n, w), Leave, Keep, Keep, Keep, Leave)
+    effect(None, None, Some((n, w)), Leave, None, None, None, Leave)
 }
 
 pub fn on_locks(c: Pass) -> Effect
     ensures { result ≡ on_locks c }
 {
-    effect(Stay, Stay, Keep, c, Keep, Keep, Keep, Leave)
+    effect(None, None, None, c, None, None, None, Leave)
 }
 
 pub fn on_header(m: u32, w: u32) -> Effect
     ensures { result ≡ on_header m w }
 {
-    effect(Stay, Stay, Keep, Leave, Put(m, w), Keep, Keep, Leave)
+    effect(None, None, None, Leave, Some((m, w)), None, None, Leave)
 }
 
 pub fn on_content(m: u32, w: u32) -> Effect
     ensures { result ≡ on_content m w }
 {
-    effect(Stay, Stay, Keep, Leave, Keep, Put(m, w), Keep, Leave)
+    effect(None, None, None, Leave, None, Some((m, w)), None, Leave)
 }
 
 pub fn on_wear(m: u32, w: u32) -> Effect
     ensures { result ≡ on_wear m w }
 {
-    effect(Stay, Stay, Keep, Leave, Keep, Keep, Put(m, w), Leave)
+    effect(None, None, None, Leave, None, None, Some((m, w)), Leave)
 }
 
 pub fn on_freed(m: u32, w: u32) -> Effect
     ensures { result ≡ on_freed m w }
 {
-    effect(Stay, Stay, Keep, Leave, Put(m, 0), Keep, Put(m, w), Leave)
+    effect(None, None, None, Leave, Some((m, 0)), None, Some((m, w)), Leave)
 }
 
 pub fn on_own(c: Pass) -> Effect
     ensures { result ≡ on_own c }
 {
-    effect(Stay, Stay, Keep, Leave, Keep, Keep, Keep, c)
+    effect(None, None, None, Leave, None, None, None, c)
 }
 
 // ---- verdicts

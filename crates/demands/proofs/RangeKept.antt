@@ -1,6 +1,7 @@
 -- Begin and step keep a store in range, of any such store, grown from fresh or made by hand: so an area that was well formed is so after
 -- every call. What an act puts is in its bounds (Acts of the crate meaning).
 -- Assumes nothing.
+use Rattle.std.specs.Prelude.{Option, Some, None}
 use mathlib.Core.Path.{◌≡◌, refl}
 use mathlib.Core.Bool.{Bool, true, false, ◌&&◌, ◌||◌}
 use mathlib.Core.Logic.{◌⊎◌, inl, inr}
@@ -9,10 +10,6 @@ use native.Mathlib.Omega.{arith}
 use lib.Dec.{eqb, ltb}
 use borrow.Author.Tests.{ltb-true}
 use Rattle.meaning.specs.declared.Thread.{Thread}
-use Rattle.meaning.specs.declared.Word.{Word}
-use Rattle.meaning.specs.declared.Word.TheVariants.{Stay, Become}
-use Rattle.meaning.specs.declared.Update.{Update}
-use Rattle.meaning.specs.declared.Update.TheVariants.{Keep, Put}
 use Rattle.meaning.specs.declared.Pass.{Pass}
 use Rattle.meaning.specs.declared.Pass.TheVariants.{Leave, Plus, Minus}
 use Rattle.meaning.specs.declared.Effect.{Effect}
@@ -35,14 +32,14 @@ use Rattle.store.proofs.Range.{AtMost, Proper, Cell, Seat, Ranged, ranged-sound,
 
 -- ---- a record and an effect that keep it
 
-become-low : (c : Word) (w bound : ℕ) → Becomes c (λ w. w ≤ bound) → w ≤ bound → become c w ≤ bound
-become-low Stay w bound x low = low
-become-low (Become w') w bound x low = x
+become-low : (c : Option ℕ) (w bound : ℕ) → Becomes c (λ w. w ≤ bound) → w ≤ bound → become c w ≤ bound
+become-low None w bound x low = low
+become-low (Some w') w bound x low = x
 
-put-cell : (size : ℕ) (In : ℕ → Type 0) (c : Update) (f : ℕ → ℕ) → Puts c (λ k w. (k < size) × In w) →
+put-cell : (size : ℕ) (In : ℕ → Type 0) (c : Option (ℕ × ℕ)) (f : ℕ → ℕ) → Puts c (λ k w. (k < size) × In w) →
     ((k : ℕ) → Cell size In k (f k)) → (k : ℕ) → Cell size In k (put c f k)
-put-cell size In Keep f x all = all
-put-cell size In (Put i w) f x all =
+put-cell size In None f x all = all
+put-cell size In (Some (i, w)) f x all =
     upd_each (Cell size In) f i w (record { low = λ _. x.1; past = λ h. absurd (omega (arith, x.0)) }) (λ k _. all k)
 
 -- of locks or owners: what the change comes to
@@ -53,10 +50,10 @@ came-cell size threads (Plus k m) f x all = (x.low, x.stays ((all k).low x.low))
 came-cell size threads (Minus k m) f x all = (x.low, x.stays ((all k).low x.low))
 
 -- the place and the word
-both-puts : (size bound : ℕ) (c : Update) → Puts c (λ k w. k < size) → Puts c (λ k w. w ≤ bound) →
+both-puts : (size bound : ℕ) (c : Option (ℕ × ℕ)) → Puts c (λ k w. k < size) → Puts c (λ k w. w ≤ bound) →
     Puts c (λ k w. (k < size) × (w ≤ bound))
-both-puts size bound Keep x y = tt
-both-puts size bound (Put i w) x y = (x, y)
+both-puts size bound None x y = tt
+both-puts size bound (Some (i, w)) x y = (x, y)
 
 apply-ranged : (s : Store) → Ranged s → (t : ℕ) → t < s.threads → (r : Thread) (e : Effect) →
     SoundThread s.numbers s.blocks r → Bounded s r e → LowWords most_word r e →

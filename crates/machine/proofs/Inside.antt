@@ -1,11 +1,10 @@
 -- The entries that a verdict's effect puts to are within their tables, and what becomes of a lock or an owner is a word: read off what is proved
 -- of every act. Assumes nothing.
+use Rattle.std.specs.Prelude.{Option, Some, None}
 use Prim.Native.Nat.{ℕ, ◌<◌, ◌≤◌}
 use Rattle.meaning.specs.declared.Act.{Act}
 use Rattle.meaning.specs.declared.Thread.{Thread}
 use Rattle.meaning.specs.declared.Effect.{Effect}
-use Rattle.meaning.specs.declared.Update.{Update}
-use Rattle.meaning.specs.declared.Update.TheVariants.{Keep, Put}
 use Rattle.meaning.specs.declared.Pass.{Pass}
 use Rattle.meaning.specs.declared.Pass.TheVariants.{Leave, Plus, Minus}
 use Rattle.meaning.specs.declared.Verdict.{Verdict}
@@ -26,13 +25,13 @@ VerdictInside s n p (Done v e) = EffectInside s n p e
 pub nowhere : (s : Store) (n p : ℕ) → EffectInside s n p nothing
 nowhere s n p = record { map = tt; locks = tt; header = tt; content = tt; wear = tt; own = tt }
 
-entry-below : (size bound : ℕ) (c : Update) → Puts c (λ k w. (k < size) × (w ≤ bound)) → EntryBelow size c
-entry-below size bound Keep x = tt
-entry-below size bound (Put i w) x = x.0
+entry-below : (size bound : ℕ) (c : Option (ℕ × ℕ)) → Puts c (λ k w. (k < size) × (w ≤ bound)) → EntryBelow size c
+entry-below size bound None x = tt
+entry-below size bound (Some (i, w)) x = x.0
 
-place-below : (size : ℕ) (c : Update) → Puts c (λ k w. k < size) → EntryBelow size c
-place-below size Keep x = tt
-place-below size (Put i w) x = x
+place-below : (size : ℕ) (c : Option (ℕ × ℕ)) → Puts c (λ k w. k < size) → EntryBelow size c
+place-below size None x = tt
+place-below size (Some (i, w)) x = x
 
 pass_below : (size threads : ℕ) (f : ℕ → ℕ) (c : Pass) → Passable size threads f c → PassBelow size f c
 pass_below size threads f Leave x = tt

@@ -1,4 +1,5 @@
 -- The searches among the first k blocks, one block more at a time: what their loops go by. Assumes nothing.
+use Rattle.std.specs.Prelude.{Option, Some, None}
 use mathlib.Core.Path.{◌≡◌, refl, ◌∙◌, sym, ap, ap₂}
 use mathlib.Core.Bool.{Bool, true, false, not}
 use Prim.Native.Nat.{ℕ, zero, suc, ◌+◌, ◌<◌, ◌≤◌}
@@ -7,8 +8,6 @@ use native.Mathlib.Decide.{dec_lt}
 use native.Mathlib.Omega.{arith}
 use lib.Dec.{ltb}
 use borrow.Author.Tests.{eq-eqb, ne_eqb, lt-ltb, le-ltb}
-use Rattle.meaning.specs.declared.Found.{Found}
-use Rattle.meaning.specs.declared.Found.TheVariants.{Nobody, At}
 use Rattle.meaning.specs.Choosing.{lowest_free, challenge, best, to_block, least_worn, from_block}
 use Rattle.meaning.specs.declared.Thread.{Thread}
 use Rattle.meaning.specs.Limits.{most_blocks, most_word}
@@ -61,25 +60,25 @@ abbrev less_worn : (ℕ → ℕ) → ℕ → ℕ → Bool
 less_worn wear k m = ltb (wear k) (wear m)
 
 -- what a search finds is below the bound on blocks
-pub to_block_below : (header wear : ℕ → ℕ) (n : ℕ) {f : Found} → f ≡ to_block header wear n → n ≤ most_blocks → place_of f < most_blocks
+pub to_block_below : (header wear : ℕ → ℕ) (n : ℕ) {f : Option ℕ} → f ≡ to_block header wear n → n ≤ most_blocks → place_of f < most_blocks
 to_block_below header wear n e h = rw e (best-below (unused header) (more_worn wear) n most_blocks h (omega arith))
 
-pub least_worn_below : (header wear : ℕ → ℕ) (n : ℕ) {f : Found} → f ≡ least_worn header wear n → n ≤ most_blocks → place_of f < most_blocks
+pub least_worn_below : (header wear : ℕ → ℕ) (n : ℕ) {f : Option ℕ} → f ≡ least_worn header wear n → n ≤ most_blocks → place_of f < most_blocks
 least_worn_below header wear n e h = rw e (best-below (used header) (less_worn wear) n most_blocks h (omega arith))
 
 -- ---- a search that keeps a mark of the best
 
 -- what a loop has found of the blocks passed: nobody, and the mark is unset, or a block, and the mark is its
-pub data Marked (mark : ℕ → ℕ) (unset : ℕ) : Found → ℕ → ℕ → Type 0 where
-  nobody : (at : ℕ) → Marked mark unset Nobody at unset
-  somebody : (m : ℕ) → (mark m ≡ unset → ⊥) → Marked mark unset (At m) m (mark m)
+pub data Marked (mark : ℕ → ℕ) (unset : ℕ) : Option ℕ → ℕ → ℕ → Type 0 where
+  nobody : (at : ℕ) → Marked mark unset None at unset
+  somebody : (m : ℕ) → (mark m ≡ unset → ⊥) → Marked mark unset (Some m) m (mark m)
 
 -- what is found in the end
-pub marked-nobody : {mark : ℕ → ℕ} {unset : ℕ} {f : Found} {at bar : ℕ} → Marked mark unset f at bar → bar ≡ unset → Nobody ≡ f
+pub marked-nobody : {mark : ℕ → ℕ} {unset : ℕ} {f : Option ℕ} {at bar : ℕ} → Marked mark unset f at bar → bar ≡ unset → None ≡ f
 marked-nobody (nobody at) e = refl
 marked-nobody (somebody m h) e = absurd (h e)
 
-pub marked-somebody : {mark : ℕ → ℕ} {unset : ℕ} {f : Found} {at bar : ℕ} → Marked mark unset f at bar → (bar ≡ unset → ⊥) → At at ≡ f
+pub marked-somebody : {mark : ℕ → ℕ} {unset : ℕ} {f : Option ℕ} {at bar : ℕ} → Marked mark unset f at bar → (bar ≡ unset → ⊥) → Some at ≡ f
 marked-somebody (nobody at) e = absurd (e refl)
 marked-somebody (somebody m h) e = refl
 
@@ -94,7 +93,7 @@ module _ (eligible : ℕ → Bool) (beats : ℕ → ℕ → Bool) {mark : ℕ �
   marked-takes e u w = rw (add-one, e) (taken h w)
     where
       taken :
-          {f : Found} {at bar : ℕ} → Marked mark unset f at bar → ((m : ℕ) → bar ≡ mark m → beats k m ≡ true) →
+          {f : Option ℕ} {at bar : ℕ} → Marked mark unset f at bar → ((m : ℕ) → bar ≡ mark m → beats k m ≡ true) →
           Marked mark unset (challenge true beats k f) k (mark k)
       taken (nobody at) w = somebody k u
       taken (somebody m i) w = rw (w m refl) (somebody k u)
@@ -105,7 +104,7 @@ module _ (eligible : ℕ → Bool) (beats : ℕ → ℕ → Bool) {mark : ℕ �
   marked-stays e u w = rw (add-one, e) (stayed h u w)
     where
       stayed :
-          {f : Found} {at bar : ℕ} → Marked mark unset f at bar → (bar ≡ unset → ⊥) → ((m : ℕ) → bar ≡ mark m → beats k m ≡ false) →
+          {f : Option ℕ} {at bar : ℕ} → Marked mark unset f at bar → (bar ≡ unset → ⊥) → ((m : ℕ) → bar ≡ mark m → beats k m ≡ false) →
           Marked mark unset (challenge true beats k f) at bar
       stayed (nobody at) u w = absurd (u refl)
       stayed (somebody m i) u w = rw (w m refl) (somebody m i)
@@ -151,8 +150,8 @@ module _ (header wear : ℕ → ℕ) (k : ℕ) {at mark : ℕ} where
 
 -- L3's verdict, of what the searches found
 pub chosen-found :
-    (header wear : ℕ → ℕ) (blocks distance q : ℕ) (r : Thread) {to from : Found} {p : ℕ} {on : Thread} {e : Effect} {v : Verdict} →
-    to ≡ to_block header wear blocks → to ≡ At q → from ≡ least_worn header wear blocks → p ≡ from_block wear distance q from →
+    (header wear : ℕ → ℕ) (blocks distance q : ℕ) (r : Thread) {to from : Option ℕ} {p : ℕ} {on : Thread} {e : Effect} {v : Verdict} →
+    to ≡ to_block header wear blocks → to ≡ Some q → from ≡ least_worn header wear blocks → p ≡ from_block wear distance q from →
     on ≡ set_q q (set_p p r) → e ≡ nothing → v ≡ next on e → v ≡ chosen_of header wear blocks distance r
 chosen-found header wear blocks distance q r t i f d o n v =
     rw (sym t ∙ i) (v ∙ ap₂ next (o ∙ ap (λ x. set_q q (set_p x r)) (d ∙ ap (from_block wear distance q) f)) n)

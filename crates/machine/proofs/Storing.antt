@@ -1,13 +1,10 @@
 -- A setter after the other: the store that the area holds after each. Assumes nothing.
+use Rattle.std.specs.Prelude.{Option, Some, None}
 use mathlib.Core.Path.{◌≡◌, refl, ◌∙◌, sym, ap, subst}
 use mathlib.Core.List.{List}
 use Prim.Native.Nat.{ℕ, ◌+◌, ◌*◌, ◌<◌}
 use native.Mathlib.Omega.{arith}
 use Rattle.meaning.specs.declared.Thread.{Thread}
-use Rattle.meaning.specs.declared.Word.{Word}
-use Rattle.meaning.specs.declared.Word.TheVariants.{Stay, Become}
-use Rattle.meaning.specs.declared.Update.{Update}
-use Rattle.meaning.specs.declared.Update.TheVariants.{Keep, Put}
 use Rattle.meaning.specs.declared.Pass.{Pass}
 use Rattle.meaning.specs.declared.Effect.{Effect}
 use Rattle.meaning.specs.Store.{Store}
@@ -23,13 +20,13 @@ use Rattle.machine.specs.Settling.{Stored}
 pub stored-start : {a : List ℕ} {t n p : ℕ} → Live a t n p → Stored a a t n p (decode a)
 stored-start live = record { decoded = refl; live = live; bytes = λ h. h }
 
-bytes-become : (a : List ℕ) (k : ℕ) (w : Word) → Bytes a → Bytes (put_become a k w)
-bytes-become a k Stay h = h
-bytes-become a k (Become v) h = bytes-put a k v h
+bytes-become : (a : List ℕ) (k : ℕ) (w : Option ℕ) → Bytes a → Bytes (put_become a k w)
+bytes-become a k None h = h
+bytes-become a k (Some v) h = bytes-put a k v h
 
-bytes-entry : (a : List ℕ) (from stride : ℕ) (e : Update) → Bytes a → Bytes (put_entry a from stride e)
-bytes-entry a from stride Keep h = h
-bytes-entry a from stride (Put k v) h = bytes-put a (from + stride * k) v h
+bytes-entry : (a : List ℕ) (from stride : ℕ) (e : Option (ℕ × ℕ)) → Bytes a → Bytes (put_entry a from stride e)
+bytes-entry a from stride None h = h
+bytes-entry a from stride (Some (k, v)) h = bytes-put a (from + stride * k) v h
 
 bytes-thread : (a : List ℕ) (k : ℕ) (r : Thread) → Bytes a → Bytes (put_thread a k r)
 bytes-thread a k r h =
@@ -57,7 +54,7 @@ bytes-thread a k r h =
     a₆ = put_word a₅ (k + 5) r.q
 
 module _ {a b : List ℕ} {t n p : ℕ} {s : Store} (r : Stored a b t n p s) where
-  pub stored-lock : {c : List ℕ} (w : Word) → c ≡ put_become b lock_at w → BecomeFits w → Stored a c t n p (with_effect s (lock_only w))
+  pub stored-lock : {c : List ℕ} (w : Option ℕ) → c ≡ put_become b lock_at w → BecomeFits w → Stored a c t n p (with_effect s (lock_only w))
   stored-lock w e f =
       rw e
       (record {
@@ -66,7 +63,7 @@ module _ {a b : List ℕ} {t n p : ℕ} {s : Store} (r : Stored a b t n p s) whe
         bytes = λ h. bytes-become b lock_at w (r.bytes h);
       })
 
-  pub stored-owner : {c : List ℕ} (w : Word) → c ≡ put_become b owner_at w → BecomeFits w → Stored a c t n p (with_effect s (owner_only w))
+  pub stored-owner : {c : List ℕ} (w : Option ℕ) → c ≡ put_become b owner_at w → BecomeFits w → Stored a c t n p (with_effect s (owner_only w))
   stored-owner w e f =
       rw e
       (record {
@@ -77,7 +74,7 @@ module _ {a b : List ℕ} {t n p : ℕ} {s : Store} (r : Stored a b t n p s) whe
 
   -- a table at `from`, with what the law of that table says
   pub stored-entry :
-      {c : List ℕ} (from stride count place : ℕ) (e : Update) (x : Effect) → place ≡ from → c ≡ put_entry b place stride e → EntryFits e →
+      {c : List ℕ} (from stride count place : ℕ) (e : Option (ℕ × ℕ)) (x : Effect) → place ≡ from → c ≡ put_entry b place stride e → EntryFits e →
       EntryBelow count e → ((k : ℕ) → k < count → Within b (from + stride * k) × (p_at < from + stride * k)) →
       decode (put_entry b from stride e) ≡ with_effect (decode b) x → Stored a c t n p (with_effect s x)
   stored-entry from stride count place e x q i f h inside law =
@@ -120,7 +117,7 @@ module _ {a b : List ℕ} {t n p : ℕ} {s : Store} (r : Stored a b t n p s) whe
 
 -- what a setter of a table asks
 pub entry-within :
-    {b : List ℕ} {t n p : ℕ} (live : Live b t n p) (from stride count place : ℕ) (e : Update) → place ≡ from → EntryBelow count e →
+    {b : List ℕ} {t n p : ℕ} (live : Live b t n p) (from stride count place : ℕ) (e : Option (ℕ × ℕ)) → place ≡ from → EntryBelow count e →
     ((k : ℕ) → k < count → Within b (from + stride * k) × (p_at < from + stride * k)) → EntryWithin b place stride e
 entry-within live from stride count place e q h inside = rw q (within-entry live from stride count e h inside)
 

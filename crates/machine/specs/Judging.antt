@@ -1,8 +1,6 @@
 -- What the functions that judge a step take for granted, and the store that they are given as words and arrays.
-use Rattle.std.specs.Prelude.{◌≡◌, Bool, not, ◌&&◌, ◌||◌, ltb, ℕ, ◌<◌, ◌≤◌}
+use Rattle.std.specs.Prelude.{◌≡◌, Bool, not, ◌&&◌, ◌||◌, ltb, ℕ, ◌<◌, ◌≤◌, Option, Some, None}
 use Rattle.meaning.specs.declared.Thread.{Thread}
-use Rattle.meaning.specs.declared.Found.{Found}
-use Rattle.meaning.specs.declared.Found.TheVariants.{Nobody, At}
 use Rattle.meaning.specs.Table.{below}
 use Rattle.meaning.specs.Limits.{most_threads, most_numbers, most_blocks, most_word}
 use Rattle.meaning.specs.Store.{Store}
@@ -17,9 +15,9 @@ use Rattle.meaning.specs.Step.{need, next, set_p, choosing, nothing}
 use Rattle.machine.specs.declared.Near.{Near}
 
 -- the block that was found, 0 for none
-abbrev pub place_of : Found → ℕ
-place_of Nobody = 0
-place_of (At m) = m
+abbrev pub place_of : Option ℕ → ℕ
+place_of None = 0
+place_of (Some m) = m
 
 -- L3's verdict where the headers are owned, of the tables and numbers that it looks at
 abbrev pub chosen_of : (ℕ → ℕ) → (ℕ → ℕ) → ℕ → ℕ → Thread → Verdict

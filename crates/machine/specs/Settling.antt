@@ -1,9 +1,5 @@
 -- What doing a verdict asks of an area and what it leaves.
-use Rattle.std.specs.Prelude.{List, ◌≡◌, ℕ}
-use Rattle.meaning.specs.declared.Word.{Word}
-use Rattle.meaning.specs.declared.Word.TheVariants.{Stay}
-use Rattle.meaning.specs.declared.Update.{Update}
-use Rattle.meaning.specs.declared.Update.TheVariants.{Keep}
+use Rattle.std.specs.Prelude.{List, ◌≡◌, ℕ, Option, None}
 use Rattle.meaning.specs.declared.Pass.{Pass}
 use Rattle.meaning.specs.declared.Pass.TheVariants.{Leave}
 use Rattle.meaning.specs.declared.Effect.{Effect}
@@ -28,8 +24,8 @@ pub record Stored (a b : List ℕ) (t n p : ℕ) (s : Store) : Type 0 where
   pub bytes : Bytes a → Bytes b
 
 -- what touches no block, and what touches nothing else
-abbrev pub unblocked : Word → Word → Update → Pass → Effect
-unblocked lock owner map locks = effect lock owner map locks Keep Keep Keep Leave
+abbrev pub unblocked : Option ℕ → Option ℕ → Option (ℕ × ℕ) → Pass → Effect
+unblocked lock owner map locks = effect lock owner map locks None None None Leave
 
-abbrev pub on_blocks : Update → Update → Update → Pass → Effect
-on_blocks header content wear own = effect Stay Stay Keep Leave header content wear own
+abbrev pub on_blocks : Option (ℕ × ℕ) → Option (ℕ × ℕ) → Option (ℕ × ℕ) → Pass → Effect
+on_blocks header content wear own = effect None None None Leave header content wear own

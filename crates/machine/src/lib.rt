@@ -25,7 +25,7 @@ use meaning::Kind::{Reader, Writer};
 use meaning::Pass::{Minus, Plus};
 use meaning::Reg::{P, Q};
 use meaning::Verdict::{Done, Fault, Go};
-use meaning::{Act, Effect, Found, Pass, Reg, Thread, Update, Verdict, Word};
+use meaning::{Act, Effect, Pass, Reg, Thread, Verdict};
 use store::Store;
 
 // What a line may look at, the searches' tables left out: how many blocks there are, the levelling distance, and the words of H, of
@@ -76,7 +76,7 @@ fn long(x: u32) -> u64
 }
 
 // L3's "to": the most worn free block, the lowest number on ties. `bar` is the least wear that beats what was found, 0 at first.
-fn to_block<'a>(header: &'a Blocks, wear: &'a Blocks, blocks: u32) -> Found
+fn to_block<'a>(header: &'a Blocks, wear: &'a Blocks, blocks: u32) -> Option<u32>
     requires { blocks ≤ most_blocks }
     ensures { result ≡ to_block (table header.now) (table wear.now) blocks }
 {
@@ -94,18 +94,14 @@ fn to_block<'a>(header: &'a Blocks, wear: &'a Blocks, blocks: u32) -> Found
         }
         k += 1;
     }
-    if bar == 0 {
-        Found::Nobody
-    } else {
-        Found::At(at)
-    }
+    if bar == 0 { None } else { Some(at) }
 }
 
 // More than any word.
 const BEYOND: u64 = 4294967296;
 
 // L3's "from": the least worn mapped block, the lowest number on ties. `least` is the wear of what was found, BEYOND at first.
-fn least_worn<'a>(header: &'a Blocks, wear: &'a Blocks, blocks: u32) -> Found
+fn least_worn<'a>(header: &'a Blocks, wear: &'a Blocks, blocks: u32) -> Option<u32>
     requires { blocks ≤ most_blocks }
     ensures { result ≡ least_worn (table header.now) (table wear.now) blocks }
 {
@@ -123,21 +119,17 @@ fn least_worn<'a>(header: &'a Blocks, wear: &'a Blocks, blocks: u32) -> Found
         }
         k += 1;
     }
-    if least == BEYOND {
-        Found::Nobody
-    } else {
-        Found::At(at)
-    }
+    if least == BEYOND { None } else { Some(at) }
 }
 
 // "from" after the distance is looked at: "to" itself where there is nothing to move. The sum is of 64 bits, so that it doesn't wrap.
-fn from_block(wear: &Blocks, distance: u32, to: u32, found: Found) -> u32
+fn from_block(wear: &Blocks, distance: u32, to: u32, found: Option<u32>) -> u32
     requires { (to < most_blocks) × (place_of found < most_blocks) }
     ensures { result ≡ from_block (table wear.now) distance to found }
 {
     match found {
-        Found::Nobody => to,
-        Found::At(f) => {
+        None => to,
+        Some(f) => {
             if long(wear[to as usize]) < long(wear[f as usize]) + long(distance) {
                 return to;
             }
@@ -160,8 +152,8 @@ fn choose<'a>(
     let to = to_block(header, wear, blocks);
     let from = least_worn(header, wear, blocks);
     match to {
-        Found::Nobody => Fault,
-        Found::At(q) => {
+        None => Fault,
+        Some(q) => {
             let p = from_block(wear, distance, q, from);
             next(set_q(q, set_p(p, r)), nothing())
         }
@@ -378,7 +370,14 @@ pub fn judge(area: &[u8], z: Sizes, t: u32, r: Thread) -> Verdict
 // ---- doing it
 
 // What becomes of H, the headers' owner, the map and the block locks.
-fn settle_numbers(area: &mut [u8], z: Sizes, lock: Word, owner: Word, map: Update, locks: Pass)
+fn settle_numbers(
+    area: &mut [u8],
+    z: Sizes,
+    lock: Option<u32>,
+    owner: Option<u32>,
+    map: Option<(u32, u32)>,
+    locks: Pass,
+)
     requires { Live area.old z.t z.n z.p × EntryBelow z.n map × PassBelow z.n (decode area.old).locks locks }
     ensures { Stored area.old area.new z.t z.n z.p (with_effect (decode area.old) (unblocked lock owner map locks)) }
 {
@@ -396,9 +395,9 @@ fn settle_numbers(area: &mut [u8], z: Sizes, lock: Word, owner: Word, map: Updat
 fn settle_blocks(
     area: &mut [u8],
     z: Sizes,
-    header: Update,
-    content: Update,
-    wear: Update,
+    header: Option<(u32, u32)>,
+    content: Option<(u32, u32)>,
+    wear: Option<(u32, u32)>,
     own: Pass,
 )
     requires { Live area.old z.t z.n z.p × EntryBelow z.p header × EntryBelow z.p content × EntryBelow z.p wear × PassBelow z.p (decode area.old).own own }

@@ -6,6 +6,7 @@
 --    with what, to which tables it writes, which block it wears and what it looks at.
 --  * Where the numbers and words near the line are in bounds, so are those of its next record, its effect and its answer.
 -- Assumes nothing.
+use Rattle.std.specs.Prelude.{Option, Some, None}
 use mathlib.Core.Path.{◌≡◌, refl, sym, subst}
 use mathlib.Core.Bool.{Bool, true, false, not, cond, ◌&&◌}
 use mathlib.Core.List.{List, [], ◌∷◌}
@@ -22,8 +23,6 @@ use Rattle.meaning.specs.declared.Answer.TheVariants.{Zero, C, Moved}
 use Rattle.meaning.specs.declared.Act.{Act}
 use Rattle.meaning.specs.declared.Act.TheVariants.{Nothing, TakeH, ReleaseH, FinishH, TakeN, ReleaseN, FinishN, OwnHeaders, LetGoHeaders, Own, LetGo, GoIfMapped, GoIfUnmapped, EmptyIfUnmapped, GoIfFree, PickFree, Choose, ReadHeader, WriteHeaderN, WriteHeaderH, FreeHeader, EmptyContent, ReadContent, WriteContent, MapTo, Unmap}
 use Rattle.meaning.specs.declared.Thread.{Thread}
-use Rattle.meaning.specs.declared.Update.{Update}
-use Rattle.meaning.specs.declared.Update.TheVariants.{Keep, Put}
 use Rattle.meaning.specs.declared.Pass.{Pass}
 use Rattle.meaning.specs.declared.Pass.TheVariants.{Leave, Plus, Minus}
 use Rattle.meaning.specs.declared.Effect.{Effect}
@@ -56,10 +55,10 @@ pub data Wears : Type 0 where
   block_of_n : Wears
 
 -- what that does to wear, of store s and a thread with record r
-abbrev pub wearing : Wears → Store → Thread → Update
-wearing no_block s r = Keep
-wearing block-p s r = Put r.p (worn (s.wear r.p))
-wearing block_of_n s r = cond (free (s.map r.n)) Keep (Put (named (s.map r.n)) (worn (s.wear (named (s.map r.n)))))
+abbrev pub wearing : Wears → Store → Thread → Option (ℕ × ℕ)
+wearing no_block s r = None
+wearing block-p s r = Some (r.p, worn (s.wear r.p))
+wearing block_of_n s r = cond (free (s.map r.n)) None (Some (named (s.map r.n), worn (s.wear (named (s.map r.n)))))
 
 pub record Shape : Type 0 where
   -- its line ends the operation, with this answer
@@ -140,10 +139,10 @@ shape Unmap = alters
 
 -- an effect on locks and owners alone
 pub record Quiet (e : Effect) : Type 0 where
-  pub map : e.map ≡ Keep
-  pub header : e.header ≡ Keep
-  pub content : e.content ≡ Keep
-  pub wear : e.wear ≡ Keep
+  pub map : e.map ≡ None
+  pub header : e.header ≡ None
+  pub content : e.content ≡ None
+  pub wear : e.wear ≡ None
 
 -- ---- bounds
 
@@ -239,7 +238,7 @@ pub record Stops (a : Act) (s : Store) (t : ℕ) (r : Thread) (value : ℕ) (e :
   pub ready : Ready s t r a
   pub ends : (shape a).ends? ≡ true
   pub answers : value ≡ answer (shape a).answers r
-  pub wear : e.wear ≡ Keep
+  pub wear : e.wear ≡ None
   pub bounded : NearBounded s t r → Bounded s idle e
   pub words : (most : ℕ) → NearWords s r most → LowWords most idle e
   pub low : (most : ℕ) → NearWords s r most → value ≤ most

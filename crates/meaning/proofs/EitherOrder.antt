@@ -4,6 +4,7 @@
 -- which is adding and taking off; what a step looks at, its thread has what guards it too, or a reader's place (tested at each line), so it comes to
 -- the same after the other one.
 -- Assumes nothing.
+use Rattle.std.specs.Prelude.{Option, Some, None}
 use mathlib.Core.Path.{◌≡◌, refl, sym, ap, ◌∙◌, subst, fun_ext}
 use mathlib.Core.Bool.{Bool, true, false, not, ◌&&◌, ◌||◌, or-true, and_comm}
 use mathlib.Core.List.{List, [], ◌∷◌}
@@ -16,10 +17,6 @@ use Rattle.meaning.specs.declared.Kind.TheVariants.{Reader, Writer}
 use Rattle.meaning.specs.declared.Act.{Act}
 use Rattle.meaning.specs.declared.Act.TheVariants.{TakeH, TakeN}
 use Rattle.meaning.specs.declared.Thread.{Thread}
-use Rattle.meaning.specs.declared.Word.{Word}
-use Rattle.meaning.specs.declared.Word.TheVariants.{Stay, Become}
-use Rattle.meaning.specs.declared.Update.{Update}
-use Rattle.meaning.specs.declared.Update.TheVariants.{Keep, Put}
 use Rattle.meaning.specs.declared.Pass.{Pass}
 use Rattle.meaning.specs.declared.Pass.TheVariants.{Plus}
 use Rattle.meaning.specs.declared.Effect.{Effect}
@@ -85,11 +82,11 @@ takes-everywhere : every_line (λ op line. taking (standing op line) (asks (act_
 takes-everywhere = refl
 
 -- a free lock that t is not about to take stays free
-free-kept : (about : Type 0) (t : ℕ) (c : Word) (w : ℕ) → Becomes c (Passes about t w) → (about → ⊥) → free w ≡ true →
+free-kept : (about : Type 0) (t : ℕ) (c : Option ℕ) (w : ℕ) → Becomes c (Passes about t w) → (about → ⊥) → free w ≡ true →
     free (become c w) ≡ true
-free-kept about t Stay w x never f = f
-free-kept about t (Become w') w (takes _ y _) never f = absurd (never y)
-free-kept about t (Become w') w (gives_up _ e) never f = rw e
+free-kept about t None w x never f = f
+free-kept about t (Some w') w (takes _ y _) never f = absurd (never y)
+free-kept about t (Some w') w (gives_up _ e) never f = rw e
 
 -- a lock that lets u in lets it in after t's coming or going, unless t is about to take it and not both read
 entry_admits_kept : (about : Kind → ℕ → Type 0) (t u : ℕ) → (t ≡ u → ⊥) → (c : Pass) (f : ℕ → ℕ) → Joins about t f c → (κ : Kind) (k : ℕ) →
@@ -213,11 +210,11 @@ module _ (t u : ℕ) (apart : t ≡ u → ⊥) where
   passes-apart w v v' (gives_up h _) (takes f _ _) z = clash f (held_not_free t w h)
   passes-apart w v v' (gives_up h _) (gives_up g _) z = apart (held_once t u w h g)
 
-  words_commute : (a b : Type 0) (c d : Word) (w : ℕ) → Becomes c (Passes a t w) → Becomes d (Passes b u w) →
+  words_commute : (a b : Type 0) (c d : Option ℕ) (w : ℕ) → Becomes c (Passes a t w) → Becomes d (Passes b u w) →
       Becomes d (Passes b u (become c w)) → become d (become c w) ≡ become c (become d w)
-  words_commute a b Stay d w x y z = refl
-  words_commute a b (Become v) Stay w x y z = refl
-  words_commute a b (Become v) (Become v') w x y z = absurd (passes-apart w v v' x y z)
+  words_commute a b None d w x y z = refl
+  words_commute a b (Some v) None w x y z = refl
+  words_commute a b (Some v) (Some v') w x y z = absurd (passes-apart w v v' x y z)
 
   -- of locks or owners an amount is added and one taken off that is there: in either order it comes to the same word
   pub entries_commute : (a b : Kind → ℕ → Type 0) (c d : Pass) (f : ℕ → ℕ) → Joins a t f c → Joins b u f d →
@@ -233,11 +230,11 @@ module _ (t u : ℕ) (apart : t ≡ u → ⊥) where
   entries_commute a b c d f (quits κ i _) (quits κ' j _) = changes_commute f i j (λ w. w - mark κ t) (λ w. w - mark κ' u) (λ e. omega arith)
 
   -- g and h guard the entries, and nobody has both
-  tables_commute : (g h : ℕ → Type 0) → ((k : ℕ) → g k → h k → ⊥) → (c d : Update) (f : ℕ → ℕ) → Puts c (λ k _. g k) →
+  tables_commute : (g h : ℕ → Type 0) → ((k : ℕ) → g k → h k → ⊥) → (c d : Option (ℕ × ℕ)) (f : ℕ → ℕ) → Puts c (λ k _. g k) →
       Puts d (λ k _. h k) → put d (put c f) ≡ put c (put d f)
-  tables_commute g h both Keep d f x y = refl
-  tables_commute g h both (Put i v) Keep f x y = refl
-  tables_commute g h both (Put i v) (Put j w) f x y = upds_commute f i j v w (λ e. both i x (subst h (sym e) y))
+  tables_commute g h both None d f x y = refl
+  tables_commute g h both (Some (i, v)) None f x y = refl
+  tables_commute g h both (Some (i, v)) (Some (j, w)) f x y = upds_commute f i j v w (λ e. both i x (subst h (sym e) y))
 
   pub applies_commute : (s : Store) (r q r' q' : Thread) (c d : Effect) → Guards s t r c → Guards s u q d →
       Guards (apply s t r' c) u q d → apply (apply s t r' c) u q' d ≡ apply (apply s u q' d) t r' c

@@ -26,6 +26,7 @@
 -- Assumes nothing.
 pub mod Keeping
 pub mod Sharing
+use Rattle.std.specs.Prelude.{Option, Some, None}
 use mathlib.Core.Path.{◌≡◌}
 use mathlib.Core.Bool.{Bool, true, false, cond, ◌&&◌, ◌||◌}
 use mathlib.Core.List.{List, [], ◌∷◌, ◌++◌}
@@ -36,14 +37,9 @@ use lib.ListN.{get_or}
 use Rattle.meaning.specs.declared.Kind.{Kind}
 use Rattle.meaning.specs.declared.Kind.TheVariants.{Reader, Writer}
 use Rattle.meaning.specs.declared.Thread.{Thread}
-use Rattle.meaning.specs.declared.Word.{Word}
-use Rattle.meaning.specs.declared.Word.TheVariants.{Stay, Become}
-use Rattle.meaning.specs.declared.Update.{Update}
-use Rattle.meaning.specs.declared.Update.TheVariants.{Keep, Put}
 use Rattle.meaning.specs.declared.Pass.{Pass}
 use Rattle.meaning.specs.declared.Pass.TheVariants.{Leave, Plus, Minus}
 use Rattle.meaning.specs.declared.Effect.{Effect}
-use Rattle.meaning.specs.declared.Found.TheVariants.{At}
 use Rattle.meaning.specs.Limits.{most_threads, within, in_limits}
 use Rattle.meaning.specs.Store.{Store, idle}
 use Rattle.meaning.specs.Holding.{none, free, by, held_by, mark, held, admits, proper, naming}
@@ -209,7 +205,7 @@ pub record Holds (s : Store) (v : ℕ) (r : Thread) : Type 0 where
 abbrev pub Chosen : Store → Thread → Type 0
 Chosen s r =
     record {
-      to : to_block s.header s.wear s.blocks ≡ At r.q;
+      to : to_block s.header s.wear s.blocks ≡ Some r.q;
       from : from_block s.wear s.distance r.q (least_worn s.header s.wear s.blocks) ≡ r.p;
     }
 
@@ -252,13 +248,13 @@ Stands r = (r ≡ idle) ⊎ (is_on_line r ≡ true)
 
 -- ---- which lock or owner guards which words
 
-abbrev pub Becomes : Word → (ℕ → Type 0) → Type 0
-Becomes Stay guard = Unit {0}
-Becomes (Become w) guard = guard w
+abbrev pub Becomes : Option ℕ → (ℕ → Type 0) → Type 0
+Becomes None guard = Unit {0}
+Becomes (Some w) guard = guard w
 
-abbrev pub Puts : Update → (ℕ → ℕ → Type 0) → Type 0
-Puts Keep guard = Unit {0}
-Puts (Put i w) guard = guard i w
+abbrev pub Puts : Option (ℕ × ℕ) → (ℕ → ℕ → Type 0) → Type 0
+Puts None guard = Unit {0}
+Puts (Some (i, w)) guard = guard i w
 
 -- H or the headers' owner: t takes it where it is free, or gives it up where it is t's; H is taken only by who is about to
 pub data Passes (about : Type 0) (t w w' : ℕ) : Type 0 where

@@ -1,8 +1,8 @@
 -- 01, "Choosing", said of the block that is chosen and not of the search for it: nothing here uses Choosing. A block is one of the first k;
 -- its header is 0 where it is free, and it is "mapped" where that isn't so.
 use Rattle.std.specs.Prelude.{◌≡◌, ◌↔◌, ℕ, ◌<◌, ◌≤◌}
-use Rattle.meaning.specs.declared.Found.{Found}
-use Rattle.meaning.specs.declared.Found.TheVariants.{Nobody, At}
+use Rattle.std.specs.declared.option.Option.{Option}
+use Rattle.std.specs.declared.option.Option.TheVariants as option
 
 abbrev pub Free : (ℕ → ℕ) → ℕ → Type 0
 Free header m = header m ≡ 0
@@ -43,6 +43,6 @@ pub record YieldsLowest (header : ℕ → ℕ) (k number : ℕ) : Type 0 where
   pub nobody : (number ≡ k) ↔ None (Free header) k
 
 -- what a search finds: a block exactly where it is the one that is asked for, nobody exactly where no block may be chosen
-pub record Chooses (found : Found) (is : ℕ → Type 0) (such : ℕ → Type 0) (k : ℕ) : Type 0 where
-  pub one : (m : ℕ) → (found ≡ At m) ↔ is m
-  pub nobody : (found ≡ Nobody) ↔ None such k
+pub record Chooses (found : Option ℕ) (is : ℕ → Type 0) (such : ℕ → Type 0) (k : ℕ) : Type 0 where
+  pub one : (m : ℕ) → (found ≡ option.Some m) ↔ is m
+  pub nobody : (found ≡ option.None) ↔ None such k

@@ -1,6 +1,6 @@
 -- What a line does. 01, "The lines", "A line's needs" and "Choosing", with readers and a writer as 02, §3, has them: a line is an act of
 -- Programs; `perform` says what it would do, and `apply` does it. So a step that is refused or blocked does nothing.
-use Rattle.std.specs.Prelude.{Bool, not, cond, ◌&&◌, ◌||◌, ℕ, ◌+◌, ◌-◌, ltb}
+use Rattle.std.specs.Prelude.{Bool, not, cond, ◌&&◌, ◌||◌, ℕ, ◌+◌, ◌-◌, ltb, Option, Some, None}
 use Rattle.meaning.specs.declared.Kind.TheVariants.{Reader, Writer}
 use Rattle.meaning.specs.declared.Reg.{Reg}
 use Rattle.meaning.specs.declared.Reg.TheVariants.{P, Q}
@@ -9,17 +9,11 @@ use Rattle.meaning.specs.declared.Answer.TheVariants.{Zero, C, Moved}
 use Rattle.meaning.specs.declared.Act.{Act}
 use Rattle.meaning.specs.declared.Act.TheVariants.{Nothing, TakeH, ReleaseH, FinishH, TakeN, ReleaseN, FinishN, OwnHeaders, LetGoHeaders, Own, LetGo, GoIfMapped, GoIfUnmapped, EmptyIfUnmapped, GoIfFree, PickFree, Choose, ReadHeader, WriteHeaderN, WriteHeaderH, FreeHeader, EmptyContent, ReadContent, WriteContent, MapTo, Unmap}
 use Rattle.meaning.specs.declared.Thread.{Thread}
-use Rattle.meaning.specs.declared.Word.{Word}
-use Rattle.meaning.specs.declared.Word.TheVariants.{Stay, Become}
-use Rattle.meaning.specs.declared.Update.{Update}
-use Rattle.meaning.specs.declared.Update.TheVariants.{Keep, Put}
 use Rattle.meaning.specs.declared.Pass.{Pass}
 use Rattle.meaning.specs.declared.Pass.TheVariants.{Leave, Plus, Minus}
 use Rattle.meaning.specs.declared.Effect.{Effect}
 use Rattle.meaning.specs.declared.Verdict.{Verdict}
 use Rattle.meaning.specs.declared.Verdict.TheVariants.{Blocked, Fault, Go, Done}
-use Rattle.meaning.specs.declared.Found.{Found}
-use Rattle.meaning.specs.declared.Found.TheVariants.{Nobody, At}
 use Rattle.meaning.specs.Table.{upd}
 use Rattle.meaning.specs.Limits.{most_word}
 use Rattle.meaning.specs.Store.{Store}
@@ -58,40 +52,40 @@ block Q r = r.q
 -- ---- the effects that there are
 
 -- what becomes of each word and table, in the area's order
-abbrev pub effect : Word → Word → Update → Pass → Update → Update → Update → Pass → Effect
+abbrev pub effect : Option ℕ → Option ℕ → Option (ℕ × ℕ) → Pass → Option (ℕ × ℕ) → Option (ℕ × ℕ) → Option (ℕ × ℕ) → Pass → Effect
 effect lock owner map locks header content wear own =
     record { lock = lock; owner = owner; map = map; locks = locks; header = header; content = content; wear = wear; own = own }
 
 abbrev pub nothing : Effect
-nothing = effect Stay Stay Keep Leave Keep Keep Keep Leave
+nothing = effect None None None Leave None None None Leave
 
 abbrev pub on_lock : ℕ → Effect
-on_lock w = effect (Become w) Stay Keep Leave Keep Keep Keep Leave
+on_lock w = effect (Some w) None None Leave None None None Leave
 
 abbrev pub on_owner : ℕ → Effect
-on_owner w = effect Stay (Become w) Keep Leave Keep Keep Keep Leave
+on_owner w = effect None (Some w) None Leave None None None Leave
 
 abbrev pub on_map : ℕ → ℕ → Effect
-on_map n w = effect Stay Stay (Put n w) Leave Keep Keep Keep Leave
+on_map n w = effect None None (Some (n, w)) Leave None None None Leave
 
 abbrev pub on_locks : Pass → Effect
-on_locks c = effect Stay Stay Keep c Keep Keep Keep Leave
+on_locks c = effect None None None c None None None Leave
 
 abbrev pub on_header : ℕ → ℕ → Effect
-on_header m w = effect Stay Stay Keep Leave (Put m w) Keep Keep Leave
+on_header m w = effect None None None Leave (Some (m, w)) None None Leave
 
 abbrev pub on_content : ℕ → ℕ → Effect
-on_content m w = effect Stay Stay Keep Leave Keep (Put m w) Keep Leave
+on_content m w = effect None None None Leave None (Some (m, w)) None Leave
 
 abbrev pub on_wear : ℕ → ℕ → Effect
-on_wear m w = effect Stay Stay Keep Leave Keep Keep (Put m w) Leave
+on_wear m w = effect None None None Leave None None (Some (m, w)) Leave
 
 -- a block freed, with its wear
 abbrev pub on_freed : ℕ → ℕ → Effect
-on_freed m w = effect Stay Stay Keep Leave (Put m none) Keep (Put m w) Leave
+on_freed m w = effect None None None Leave (Some (m, none)) None (Some (m, w)) Leave
 
 abbrev pub on_own : Pass → Effect
-on_own c = effect Stay Stay Keep Leave Keep Keep Keep c
+on_own c = effect None None None Leave None None None c
 
 -- ---- verdicts
 
@@ -142,9 +136,9 @@ abbrev pub to_rewrite : ℕ → ℕ → ℕ → Thread → Verdict
 to_rewrite l w x r = cond (free w) (next r nothing) (Go (set_p (named w) (goto l r)) (on_wear (named w) (worn x)))
 
 -- L3 where `to` and the least worn mapped block are found
-abbrev pub choosing : (ℕ → ℕ) → ℕ → Thread → Found → Found → Verdict
-choosing wear distance r Nobody from = Fault
-choosing wear distance r (At to) from = next (set_q to (set_p (from_block wear distance to from) r)) nothing
+abbrev pub choosing : (ℕ → ℕ) → ℕ → Thread → Option ℕ → Option ℕ → Verdict
+choosing wear distance r None from = Fault
+choosing wear distance r (Some to) from = next (set_q to (set_p (from_block wear distance to from) r)) nothing
 
 -- what the act would do: of store s, for thread t with record r
 abbrev pub perform : Act → Store → ℕ → Thread → Verdict
@@ -185,19 +179,19 @@ verdict s t = perform (act_at (s.thread t).op (s.thread t).line) s t (s.thread t
 
 -- ---- doing it
 
-abbrev pub become : Word → ℕ → ℕ
-become Stay x = x
-become (Become w) x = w
+abbrev pub become : Option ℕ → ℕ → ℕ
+become None x = x
+become (Some w) x = w
 
-abbrev pub put : Update → (ℕ → ℕ) → ℕ → ℕ
-put Keep f = f
-put (Put i w) f = upd f i w
+abbrev pub put : Option (ℕ × ℕ) → (ℕ → ℕ) → ℕ → ℕ
+put None f = f
+put (Some (i, w)) f = upd f i w
 
 -- what a change of locks or owners f comes to: the word that it puts
-abbrev pub came : (ℕ → ℕ) → Pass → Update
-came f Leave = Keep
-came f (Plus i m) = Put i (f i + m)
-came f (Minus i m) = Put i (f i - m)
+abbrev pub came : (ℕ → ℕ) → Pass → Option (ℕ × ℕ)
+came f Leave = None
+came f (Plus i m) = Some (i, f i + m)
+came f (Minus i m) = Some (i, f i - m)
 
 -- the store with these records of its threads, and an effect
 abbrev pub changed : Store → (ℕ → Thread) → Effect → Store

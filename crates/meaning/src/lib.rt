@@ -70,20 +70,6 @@ pub struct Thread {
     pub h: u32,
 }
 
-// What becomes of a word: it stays, or becomes a value.
-#[derive(Clone, Copy)]
-pub enum Word {
-    Stay,
-    Become(u32),
-}
-
-// What becomes of a table: it is kept, or a value is put at an index.
-#[derive(Clone, Copy)]
-pub enum Update {
-    Keep,
-    Put(u32, u32),
-}
-
 // What becomes of the locks or of the owners of blocks: they are left, or an amount is added to the word at an index, or taken off it.
 #[derive(Clone, Copy)]
 pub enum Pass {
@@ -92,16 +78,17 @@ pub enum Pass {
     Minus(u32, u32),
 }
 
-// What a step does to the store beside its thread's record: in each table one entry at most.
+// What a step does to the store beside its thread's record: the value that a word becomes, if it does; in each table the index and the value of the
+// one entry that is put, if one is.
 #[derive(Clone, Copy)]
 pub struct Effect {
-    pub lock: Word,
-    pub owner: Word,
-    pub map: Update,
+    pub lock: Option<u32>,
+    pub owner: Option<u32>,
+    pub map: Option<(u32, u32)>,
     pub locks: Pass,
-    pub header: Update,
-    pub content: Update,
-    pub wear: Update,
+    pub header: Option<(u32, u32)>,
+    pub content: Option<(u32, u32)>,
+    pub wear: Option<(u32, u32)>,
     pub own: Pass,
 }
 
@@ -112,11 +99,4 @@ pub enum Verdict {
     Fault,
     Go(Thread, Effect),
     Done(u32, Effect),
-}
-
-// What a search among blocks finds.
-#[derive(Clone, Copy)]
-pub enum Found {
-    Nobody,
-    At(u32),
 }

@@ -1,5 +1,6 @@
 -- What a word that is put does to the store that an area holds: it changes the table that it stands in, at its entry, and no other.
 -- The tables are numbered, so that one law, `store_of-mixed`, says of each that the others are kept. Assumes nothing.
+use Rattle.std.specs.Prelude.{Option, Some, None}
 use mathlib.Core.Path.{◌≡◌, refl, ◌∙◌, sym, ap, subst}
 use mathlib.Core.Bool.{Bool, true, false, cond}
 use mathlib.Core.List.{List, [], ◌∷◌}
@@ -11,10 +12,6 @@ use lib.ListN.{length}
 use borrow.Author.Tests.{lt-ltb, eqb-true, eqb-false, ne_eqb, le-ltb}
 use Rattle.meaning.specs.declared.Thread.{Thread}
 use Rattle.meaning.specs.declared.Effect.{Effect}
-use Rattle.meaning.specs.declared.Word.{Word}
-use Rattle.meaning.specs.declared.Word.TheVariants.{Stay, Become}
-use Rattle.meaning.specs.declared.Update.{Update}
-use Rattle.meaning.specs.declared.Update.TheVariants.{Keep, Put}
 use Rattle.meaning.specs.declared.Pass.{Pass}
 use Rattle.meaning.specs.declared.Pass.TheVariants.{Leave, Plus, Minus}
 use Rattle.meaning.specs.Table.{upd, below}
@@ -226,29 +223,29 @@ module _ {a : List ℕ} {t n p : ℕ} (live : Live a t n p) (w x : ℕ) (inside 
       decode-live live-put ∙ ap (λ (f : ℕ → ℕ). store_of f t n p) word_put_at ∙ q ∙ ap (λ s. with_effect s e) (sym (decode-live live))
 
 -- the effects on one table alone
-abbrev pub lock_only : Word → Effect
-lock_only w = record { lock = w; owner = Stay; map = Keep; locks = Leave; header = Keep; content = Keep; wear = Keep; own = Leave }
+abbrev pub lock_only : Option ℕ → Effect
+lock_only w = record { lock = w; owner = None; map = None; locks = Leave; header = None; content = None; wear = None; own = Leave }
 
-abbrev pub owner_only : Word → Effect
-owner_only w = record { lock = Stay; owner = w; map = Keep; locks = Leave; header = Keep; content = Keep; wear = Keep; own = Leave }
+abbrev pub owner_only : Option ℕ → Effect
+owner_only w = record { lock = None; owner = w; map = None; locks = Leave; header = None; content = None; wear = None; own = Leave }
 
-abbrev pub map_only : Update → Effect
-map_only w = record { lock = Stay; owner = Stay; map = w; locks = Leave; header = Keep; content = Keep; wear = Keep; own = Leave }
+abbrev pub map_only : Option (ℕ × ℕ) → Effect
+map_only w = record { lock = None; owner = None; map = w; locks = Leave; header = None; content = None; wear = None; own = Leave }
 
 abbrev pub locks_only : Pass → Effect
-locks_only w = record { lock = Stay; owner = Stay; map = Keep; locks = w; header = Keep; content = Keep; wear = Keep; own = Leave }
+locks_only w = record { lock = None; owner = None; map = None; locks = w; header = None; content = None; wear = None; own = Leave }
 
-abbrev pub header_only : Update → Effect
-header_only w = record { lock = Stay; owner = Stay; map = Keep; locks = Leave; header = w; content = Keep; wear = Keep; own = Leave }
+abbrev pub header_only : Option (ℕ × ℕ) → Effect
+header_only w = record { lock = None; owner = None; map = None; locks = Leave; header = w; content = None; wear = None; own = Leave }
 
-abbrev pub content_only : Update → Effect
-content_only w = record { lock = Stay; owner = Stay; map = Keep; locks = Leave; header = Keep; content = w; wear = Keep; own = Leave }
+abbrev pub content_only : Option (ℕ × ℕ) → Effect
+content_only w = record { lock = None; owner = None; map = None; locks = Leave; header = None; content = w; wear = None; own = Leave }
 
-abbrev pub wear_only : Update → Effect
-wear_only w = record { lock = Stay; owner = Stay; map = Keep; locks = Leave; header = Keep; content = Keep; wear = w; own = Leave }
+abbrev pub wear_only : Option (ℕ × ℕ) → Effect
+wear_only w = record { lock = None; owner = None; map = None; locks = Leave; header = None; content = None; wear = w; own = Leave }
 
 abbrev pub own_only : Pass → Effect
-own_only w = record { lock = Stay; owner = Stay; map = Keep; locks = Leave; header = Keep; content = Keep; wear = Keep; own = w }
+own_only w = record { lock = None; owner = None; map = None; locks = Leave; header = None; content = None; wear = None; own = w }
 
 -- a pass of table f, of so many entries: what it comes to, by the area's words
 module _ (a : List ℕ) (from stride count : ℕ) (f : ℕ → ℕ) where
@@ -271,22 +268,22 @@ module _ (a : List ℕ) (from stride count : ℕ) (f : ℕ → ℕ) where
 
 module _ {a : List ℕ} {t n p : ℕ} (live : Live a t n p) where
   -- the area stays live, whatever becomes of a word past the sizes
-  pub live-become : (k : ℕ) (w : Word) → Within a k → p_at < k → BecomeFits w → Live (put_become a k w) t n p
-  live-become k Stay i o f = live
-  live-become k (Become x) i o f = live-put live k x i o f
+  pub live-become : (k : ℕ) (w : Option ℕ) → Within a k → p_at < k → BecomeFits w → Live (put_become a k w) t n p
+  live-become k None i o f = live
+  live-become k (Some x) i o f = live-put live k x i o f
 
   pub live-entry :
-      (from stride count : ℕ) (e : Update) → EntryBelow count e →
+      (from stride count : ℕ) (e : Option (ℕ × ℕ)) → EntryBelow count e →
       ((k : ℕ) → k < count → Within a (from + stride * k) × (p_at < from + stride * k)) → EntryFits e →
       Live (put_entry a from stride e) t n p
-  live-entry from stride count Keep h i f = live
-  live-entry from stride count (Put k x) h i f = live-put live (from + stride * k) x (i k h).0 (i k h).1 f
+  live-entry from stride count None h i f = live
+  live-entry from stride count (Some (k, x)) h i f = live-put live (from + stride * k) x (i k h).0 (i k h).1 f
 
   pub within-entry :
-      (from stride count : ℕ) (e : Update) → EntryBelow count e →
+      (from stride count : ℕ) (e : Option (ℕ × ℕ)) → EntryBelow count e →
       ((k : ℕ) → k < count → Within a (from + stride * k) × (p_at < from + stride * k)) → EntryWithin a from stride e
-  within-entry from stride count Keep h i = tt
-  within-entry from stride count (Put k x) h i = (i k h).0
+  within-entry from stride count None h i = tt
+  within-entry from stride count (Some (k, x)) h i = (i k h).0
 
   -- where each table stands
   pub map-inside : (k : ℕ) → k < n → Within a (map_at t + 1 * k) × (p_at < map_at t + 1 * k)
@@ -312,14 +309,14 @@ module _ {a : List ℕ} {t n p : ℕ} (live : Live a t n p) where
       within_pass a (blocks_at t n + 3) block_words p (decode a).own (ap (λ s. s.own) (decode-live live)) (blocks-inside 3 (omega arith))
 
   -- what becomes of each table of the decoded store
-  pub decode-lock : (w : Word) → BecomeFits w → decode (put_become a lock_at w) ≡ with_effect (decode a) (lock_only w)
-  decode-lock Stay f = refl
-  decode-lock (Become x) f =
+  pub decode-lock : (w : Option ℕ) → BecomeFits w → decode (put_become a lock_at w) ≡ with_effect (decode a) (lock_only w)
+  decode-lock None f = refl
+  decode-lock (Some x) f =
       decode-put live lock_at x (omega (arith, live.fits)) (omega arith) f (on_lock x) (others (word a) t n p 0 lock_at x (omega arith))
 
-  pub decode-owner : (w : Word) → BecomeFits w → decode (put_become a owner_at w) ≡ with_effect (decode a) (owner_only w)
-  decode-owner Stay f = refl
-  decode-owner (Become x) f =
+  pub decode-owner : (w : Option ℕ) → BecomeFits w → decode (put_become a owner_at w) ≡ with_effect (decode a) (owner_only w)
+  decode-owner None f = refl
+  decode-owner (Some x) f =
       decode-put live owner_at x (omega (arith, live.fits)) (omega arith) f (on_owner x) (others (word a) t n p 1 owner_at x (omega arith))
 
   -- Table x of numbers is the column of so many words at from, from + stride, ..
@@ -330,18 +327,18 @@ module _ {a : List ℕ} {t n p : ℕ} (live : Live a t n p) where
       (inside : (k : ℕ) → k < count → Within a (from + stride * k) × (p_at < from + stride * k)) where
     -- effect o puts e to it and does nothing else
     decode-entry :
-        (e : Update) (o : Effect) →
+        (e : Option (ℕ × ℕ)) (o : Effect) →
         with_table x (put e (column (word a) from stride count)) (store_of (word a) t n p) ≡ with_effect (store_of (word a) t n p) o →
         EntryBelow count e → EntryFits e → decode (put_entry a from stride e) ≡ with_effect (decode a) o
-    decode-entry Keep o makes h f = decode-live live ∙ keeps ∙ makes ∙ ap (λ s. with_effect s o) (sym (decode-live live))
-    decode-entry (Put k v) o makes h f =
+    decode-entry None o makes h f = decode-live live ∙ keeps ∙ makes ∙ ap (λ s. with_effect s o) (sym (decode-live live))
+    decode-entry (Some (k, v)) o makes h f =
         decode-put live (from + stride * k) v (inside k h).0 (inside k h).1 f o
         (others (word a) t n p x (from + stride * k) v (apart k h)
         ∙ reads (upd (word a) (from + stride * k) v) (store_of (word a) t n p)
         ∙ ap (λ g. with_table x g (store_of (word a) t n p)) (column-put (word a) from stride count k v h (once k))
         ∙ makes)
 
-  pub decode-map : (e : Update) → EntryBelow n e → EntryFits e → decode (put_entry a (map_at t) 1 e) ≡ with_effect (decode a) (map_only e)
+  pub decode-map : (e : Option (ℕ × ℕ)) → EntryBelow n e → EntryFits e → decode (put_entry a (map_at t) 1 e) ≡ with_effect (decode a) (map_only e)
   decode-map e =
       decode-entry 3 (map_at t) 1 n refl (λ at s. refl) (λ k h. omega arith) (λ k j o e. omega arith) map-inside e (map_only e) refl
 
@@ -356,19 +353,19 @@ module _ {a : List ℕ} {t n p : ℕ} (live : Live a t n p) where
       (passed-below a (locks_at t n) 1 n (decode a).locks c h)
 
   pub decode-header :
-      (e : Update) → EntryBelow p e → EntryFits e → decode (put_entry a (blocks_at t n) block_words e) ≡ with_effect (decode a) (header_only e)
+      (e : Option (ℕ × ℕ)) → EntryBelow p e → EntryFits e → decode (put_entry a (blocks_at t n) block_words e) ≡ with_effect (decode a) (header_only e)
   decode-header e =
       decode-entry 5 (blocks_at t n) block_words p refl (λ at s. refl) (λ k h. omega arith) (λ k j o e. omega arith) header-inside
       e (header_only e) refl
 
   pub decode-content :
-      (e : Update) → EntryBelow p e → EntryFits e → decode (put_entry a (blocks_at t n + 1) block_words e) ≡ with_effect (decode a) (content_only e)
+      (e : Option (ℕ × ℕ)) → EntryBelow p e → EntryFits e → decode (put_entry a (blocks_at t n + 1) block_words e) ≡ with_effect (decode a) (content_only e)
   decode-content e =
       decode-entry 6 (blocks_at t n + 1) block_words p refl (λ at s. refl) (λ k h. omega arith) (λ k j o e. omega arith)
       (blocks-inside 1 (omega arith)) e (content_only e) refl
 
   pub decode-wear :
-      (e : Update) → EntryBelow p e → EntryFits e → decode (put_entry a (blocks_at t n + 2) block_words e) ≡ with_effect (decode a) (wear_only e)
+      (e : Option (ℕ × ℕ)) → EntryBelow p e → EntryFits e → decode (put_entry a (blocks_at t n + 2) block_words e) ≡ with_effect (decode a) (wear_only e)
   decode-wear e =
       decode-entry 7 (blocks_at t n + 2) block_words p refl (λ at s. refl) (λ k h. omega arith) (λ k j o e. omega arith)
       (blocks-inside 2 (omega arith)) e (wear_only e) refl

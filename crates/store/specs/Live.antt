@@ -1,12 +1,8 @@
 -- What contracts between our own functions cite: what they may take for granted of an area, which is linear facts alone (it has the length of
 -- its sizes, and these are in limits), what the setters do, and the working store.
-use Rattle.std.specs.Prelude.{◌≡◌, List, ℕ, zero, suc, ◌+◌, ◌*◌, ◌/◌, ◌%◌, ◌<◌, ◌≤◌, length, get_or, set, replicate}
+use Rattle.std.specs.Prelude.{◌≡◌, List, ℕ, zero, suc, ◌+◌, ◌*◌, ◌/◌, ◌%◌, ◌<◌, ◌≤◌, length, get_or, set, replicate, Option, Some, None}
 use Rattle.std.specs.Int.Bits.{bit_or}
 use Rattle.meaning.specs.declared.Thread.{Thread}
-use Rattle.meaning.specs.declared.Word.{Word}
-use Rattle.meaning.specs.declared.Word.TheVariants.{Stay, Become}
-use Rattle.meaning.specs.declared.Update.{Update}
-use Rattle.meaning.specs.declared.Update.TheVariants.{Keep, Put}
 use Rattle.meaning.specs.declared.Pass.{Pass}
 use Rattle.meaning.specs.declared.Pass.TheVariants.{Leave, Plus, Minus}
 use Rattle.meaning.specs.Limits.{most_threads, most_numbers, most_blocks, most_word}
@@ -29,9 +25,9 @@ abbrev pub Within : List ℕ → ℕ → Type 0
 Within a k = 4 * k + 4 ≤ length a
 
 -- the entry of a column that is put to, if any, is within the area
-abbrev pub EntryWithin : List ℕ → ℕ → ℕ → Update → Type 0
-EntryWithin a from stride Keep = Unit {0}
-EntryWithin a from stride (Put k v) = Within a (from + stride * k)
+abbrev pub EntryWithin : List ℕ → ℕ → ℕ → Option (ℕ × ℕ) → Type 0
+EntryWithin a from stride None = Unit {0}
+EntryWithin a from stride (Some (k, v)) = Within a (from + stride * k)
 
 -- the entry of a column that is added to or taken off, if any, is within the area, and what it comes to is a word
 abbrev pub PassWithin : List ℕ → ℕ → ℕ → Pass → Type 0
@@ -49,18 +45,18 @@ all_bits zero f = 0
 all_bits (suc k) f = bit_or (all_bits k f) (f k)
 
 -- the words that a setter is given are words: what it can tell, since its arguments are
-abbrev pub BecomeFits : Word → Type 0
-BecomeFits Stay = Unit {0}
-BecomeFits (Become v) = v ≤ most_word
+abbrev pub BecomeFits : Option ℕ → Type 0
+BecomeFits None = Unit {0}
+BecomeFits (Some v) = v ≤ most_word
 
-abbrev pub EntryFits : Update → Type 0
-EntryFits Keep = Unit {0}
-EntryFits (Put k v) = v ≤ most_word
+abbrev pub EntryFits : Option (ℕ × ℕ) → Type 0
+EntryFits None = Unit {0}
+EntryFits (Some (k, v)) = v ≤ most_word
 
 -- the entry that is put to, if any, is one of so many
-abbrev pub EntryBelow : ℕ → Update → Type 0
-EntryBelow n Keep = Unit {0}
-EntryBelow n (Put k v) = k < n
+abbrev pub EntryBelow : ℕ → Option (ℕ × ℕ) → Type 0
+EntryBelow n None = Unit {0}
+EntryBelow n (Some (k, v)) = k < n
 
 -- the entry of table f that is added to or taken off, if any, is one of so many, and what it comes to is a word
 abbrev pub PassBelow : ℕ → (ℕ → ℕ) → Pass → Type 0
@@ -104,17 +100,17 @@ put_thread a k r =
     (k + 6) r.h
 
 -- the area with what becomes of its word k
-abbrev pub put_become : List ℕ → ℕ → Word → List ℕ
-put_become a k Stay = a
-put_become a k (Become v) = put_word a k v
+abbrev pub put_become : List ℕ → ℕ → Option ℕ → List ℕ
+put_become a k None = a
+put_become a k (Some v) = put_word a k v
 
 -- the area with what becomes of the column of words at from, from + stride, ..
-abbrev pub put_entry : List ℕ → ℕ → ℕ → Update → List ℕ
-put_entry a from stride Keep = a
-put_entry a from stride (Put k v) = put_word a (from + stride * k) v
+abbrev pub put_entry : List ℕ → ℕ → ℕ → Option (ℕ × ℕ) → List ℕ
+put_entry a from stride None = a
+put_entry a from stride (Some (k, v)) = put_word a (from + stride * k) v
 
 -- what a pass of that column comes to
-abbrev pub passed : List ℕ → ℕ → ℕ → Pass → Update
+abbrev pub passed : List ℕ → ℕ → ℕ → Pass → Option (ℕ × ℕ)
 passed a from stride c = came (λ k. word a (from + stride * k)) c
 
 -- ---- the working store

@@ -11,7 +11,7 @@ ghost use Rattle.store.specs.Layout.{threads_at, thread_words, block_words, map_
 ghost use Rattle.store.specs.Area.{word, thread_from, column, decode, sound_thread, in_bounds, well_formed};
 ghost use Rattle.store.specs.Live.{Live, Within, EntryWithin, PassWithin, BecomeFits, EntryFits, Small, Reaches, all_bits, Fills, table, zero_filled, put_word, put_thread, put_become, put_entry, passed as passed_of};
 
-use meaning::{Pass, SETS, Thread, Update, Word};
+use meaning::{Pass, SETS, Thread};
 
 // ---- the working store and the limits
 
@@ -337,26 +337,26 @@ pub fn well_formed(area: &[u8]) -> bool
 // ---- setters: each changes exactly the words that its contract names
 
 // What becomes of word k: the header lock, the headers' owner.
-pub fn set_word(area: &mut [u8], k: usize, w: Word)
+pub fn set_word(area: &mut [u8], k: usize, w: Option<u32>)
     requires { Within area.old k }
     ensures { (area.new ≡ put_become area.old k w) × BecomeFits w }
 {
     match w {
-        Word::Stay => {}
-        Word::Become(v) => {
+        None => {}
+        Some(v) => {
             put_word(area, k, v);
         }
     }
 }
 
 // What becomes of a table: the column of words at from, from + stride, ..
-pub fn set_entry(area: &mut [u8], from: usize, stride: usize, e: Update)
+pub fn set_entry(area: &mut [u8], from: usize, stride: usize, e: Option<(u32, u32)>)
     requires { EntryWithin area.old from stride e }
     ensures { (area.new ≡ put_entry area.old from stride e) × EntryFits e }
 {
     match e {
-        Update::Keep => {}
-        Update::Put(k, v) => {
+        None => {}
+        Some((k, v)) => {
             let cell = from + stride * (k as usize);
             put_word(area, cell, v);
         }
@@ -364,14 +364,14 @@ pub fn set_entry(area: &mut [u8], from: usize, stride: usize, e: Update)
 }
 
 // What a pass of such a column comes to.
-fn passed(area: &[u8], from: usize, stride: usize, c: Pass) -> Update
+fn passed(area: &[u8], from: usize, stride: usize, c: Pass) -> Option<(u32, u32)>
     requires { PassWithin area.now from stride c }
     ensures { result ≡ passed_of area.now from stride c }
 {
     match c {
-        Pass::Leave => Update::Keep,
-        Pass::Plus(k, m) => Update::Put(k, word_at(area, from + stride * (k as usize)) + m),
-        Pass::Minus(k, m) => Update::Put(k, word_at(area, from + stride * (k as usize)) - m),
+        Pass::Leave => None,
+        Pass::Plus(k, m) => Some((k, word_at(area, from + stride * (k as usize)) + m)),
+        Pass::Minus(k, m) => Some((k, word_at(area, from + stride * (k as usize)) - m)),
     }
 }
 

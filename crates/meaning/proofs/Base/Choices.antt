@@ -1,14 +1,13 @@
 -- What the searches of specs/Choosing find is what 01 asks for, as specs/Chosen says it: the lowest free block, the most worn free
 -- block, the least worn mapped one, the lowest of those that tie; and nobody exactly where there is none.
 -- Assumes nothing.
+use Rattle.std.specs.Prelude.{Option, Some, None}
 use mathlib.Core.Path.{◌≡◌, refl, sym, ap}
 use mathlib.Core.Bool.{Bool, true, false, not}
 use Prim.Native.Nat.{ℕ, zero, suc, ◌<◌, ◌≤◌}
 use native.Mathlib.Omega.{arith}
 use lib.Dec.{eqb, ltb}
 use borrow.Author.Tests.{eqb-true, eqb-false, eq-eqb, ne_eqb, ltb-true, ltb-false, lt-ltb, le-ltb, not-true}
-use Rattle.meaning.specs.declared.Found.{Found}
-use Rattle.meaning.specs.declared.Found.TheVariants.{Nobody, At}
 use Rattle.meaning.specs.Holding.{free}
 use Rattle.meaning.specs.Choosing.{lowest_free, challenge, best, to_block, least_worn}
 use Rattle.meaning.specs.Chosen.{Free, Mapped, IsTo, IsLeastWorn, YieldsLowest, Chooses}
@@ -76,9 +75,9 @@ module _ (eligible : ℕ → Bool) (beats : ℕ → ℕ → Bool) (k : ℕ) wher
     lower : (j : ℕ) → j < m → eligible j ≡ true → beats m j ≡ true
 
   -- what a search has found: nobody is eligible, or it is the one that wins
-  abbrev Settled : Found → Type 0
-  Settled Nobody = (j : ℕ) → j < k → eligible j ≡ true → ⊥
-  Settled (At m) = Wins m
+  abbrev Settled : Option ℕ → Type 0
+  Settled None = (j : ℕ) → j < k → eligible j ≡ true → ⊥
+  Settled (Some m) = Wins m
 
 module _ (eligible : ℕ → Bool) (beats : ℕ → ℕ → Bool) (compares : Compares beats) where
   -- what holds of the eligible ones below k and of k
@@ -110,12 +109,12 @@ module _ (eligible : ℕ → Bool) (beats : ℕ → ℕ → Bool) (compares : Co
         lower = w.lower;
       }
 
-  challenge-wins : (k : ℕ) (x : Bool) (found : Found) → eligible k ≡ x → Settled eligible beats k found →
+  challenge-wins : (k : ℕ) (x : Bool) (found : Option ℕ) → eligible k ≡ x → Settled eligible beats k found →
       Settled eligible beats (suc k) (challenge x beats k found)
-  challenge-wins k false Nobody e w = and_last (λ j. ⊥) k w (λ y. clash y e)
-  challenge-wins k false (At m) e w = still-wins k m (λ y. clash y e) w
-  challenge-wins k true Nobody e w = last_wins k e (λ j b y. absurd (w j b y))
-  challenge-wins k true (At m) e w =
+  challenge-wins k false None e w = and_last (λ j. ⊥) k w (λ y. clash y e)
+  challenge-wins k false (Some m) e w = still-wins k m (λ y. clash y e) w
+  challenge-wins k true None e w = last_wins k e (λ j b y. absurd (w j b y))
+  challenge-wins k true (Some m) e w =
       either_way (beats k m) (λ x. rw x (last_wins k e (λ j b y. compares.all j m k x (w.unbeaten j b y))))
       (λ x. rw x (still-wins k m (λ y. x) w))
 
@@ -133,18 +132,18 @@ module _ (eligible : ℕ → Bool) (beats : ℕ → ℕ → Bool) (compares : Co
       unique : (m l : ℕ) → is m → is l → m ≡ l
       unique m l x y = let low = no-two m l x y in let high = no-two l m y x in omega arith
 
-      apart : {A : Type 0} (m : ℕ) → Nobody ≡ At m → A
+      apart : {A : Type 0} (m : ℕ) → None ≡ Some m → A
       apart m e = absurd (let z : ◌≡◌ {A = ℕ} 0 1 = cc in omega arith)
 
-      go : (found : Found) → Settled eligible beats k found → Chooses found is such k
-      go Nobody w =
+      go : (found : Option ℕ) → Settled eligible beats k found → Chooses found is such k
+      go None w =
           record {
             one = λ m. (λ e. apart m e, λ x. let y = one-such m x in absurd (w m y.0 (test m y.1)));
             nobody = (λ e m b x. w m b (test m x), λ none. refl);
           }
-      go (At l) w =
+      go (Some l) w =
           record {
-            one = λ m. (λ e. let y : l ≡ m = cc in rw (← y) (wins l w), λ x. ap At (unique l m (wins l w) x));
+            one = λ m. (λ e. let y : l ≡ m = cc in rw (← y) (wins l w), λ x. ap Some (unique l m (wins l w) x));
             nobody = (λ e. apart l (sym e), λ none. absurd (none l w.inside (tested l w.is_eligible)));
           }
 

@@ -1,13 +1,13 @@
 -- What the searches of specs/Choosing find, and that there is a free block to be found where W5 and L3 ask: while no block is astray,
 -- no number has two blocks, and there are more blocks than numbers.
 -- Assumes nothing.
+use Rattle.std.specs.Prelude.{Some, None}
 use mathlib.Core.Path.{◌≡◌, refl, sym, ◌∙◌}
 use mathlib.Core.Bool.{Bool, true, false, not, cond}
 use Prim.Native.Nat.{ℕ, zero, suc, ◌+◌, ◌<◌, ◌≤◌}
 use native.Mathlib.Omega.{arith}
 use lib.Dec.{eqb, ltb}
 use borrow.Author.Tests.{eqb-true, eqb-false, lt-ltb, le-ltb}
-use Rattle.meaning.specs.declared.Found.TheVariants.{Nobody, At}
 use Rattle.meaning.specs.Holding.{free, naming, named}
 use Rattle.meaning.specs.Choosing.{lowest_free, best, to_block, least_worn, from_block}
 use Rattle.meaning.proofs.Base.Words.{either_way, naming-named, named-below}
@@ -94,7 +94,7 @@ lowest-finds header (suc k) = go (lowest-finds header k)
         (λ f. finds-nobody (more (λ m. free (header m)) k all f) (rw (e, le-ltb k k (omega arith), f)))
 
 abbrev pub Best : (ℕ → Bool) → (ℕ → ℕ → Bool) → ℕ → Type 0
-Best eligible beats k = Finds eligible k (λ m. best eligible beats k ≡ At m) (best eligible beats k ≡ Nobody)
+Best eligible beats k = Finds eligible k (λ m. best eligible beats k ≡ Some m) (best eligible beats k ≡ None)
 
 pub best-finds : (eligible : ℕ → Bool) (beats : ℕ → ℕ → Bool) (k : ℕ) → Best eligible beats k
 best-finds eligible beats zero = finds-nobody (λ m b. absurd (omega arith)) refl
@@ -110,14 +110,14 @@ best-finds eligible beats (suc k) = go (best-finds eligible beats k)
 
 -- "to", and "from" before the distance is looked at
 abbrev pub To : (ℕ → ℕ) → (ℕ → ℕ) → ℕ → Type 0
-To header wear k = Finds (λ m. free (header m)) k (λ m. to_block header wear k ≡ At m) (to_block header wear k ≡ Nobody)
+To header wear k = Finds (λ m. free (header m)) k (λ m. to_block header wear k ≡ Some m) (to_block header wear k ≡ None)
 
 pub to_finds : (header wear : ℕ → ℕ) (k : ℕ) → To header wear k
 to_finds header wear k = best-finds _ _ k
 
 abbrev pub LeastWorn : (ℕ → ℕ) → (ℕ → ℕ) → ℕ → Type 0
 LeastWorn header wear k =
-    Finds (λ m. not (free (header m))) k (λ m. least_worn header wear k ≡ At m) (least_worn header wear k ≡ Nobody)
+    Finds (λ m. not (free (header m))) k (λ m. least_worn header wear k ≡ Some m) (least_worn header wear k ≡ None)
 
 pub least_worn_finds : (header wear : ℕ → ℕ) (k : ℕ) → LeastWorn header wear k
 least_worn_finds header wear k = best-finds _ _ k

@@ -2,6 +2,7 @@
 -- what another thread knows of a word, that thread has what guards it, or reads beside it (the table, tested at each line by computation). So one
 -- law for each kind of fact is enough, and no two lines or acts are compared.
 -- Assumes nothing.
+use Rattle.std.specs.Prelude.{Option, Some, None}
 use mathlib.Core.Path.{◌≡◌, refl, sym, ap, ◌∙◌, subst, fun_ext}
 use mathlib.Core.Bool.{Bool, true, false, not, cond, ◌&&◌, ◌||◌, or-true}
 use mathlib.Core.Logic.{inl, inr}
@@ -12,10 +13,6 @@ use borrow.Author.Tests.{eqb-true, eqb-false}
 use Rattle.meaning.specs.declared.Kind.{Kind}
 use Rattle.meaning.specs.declared.Kind.TheVariants.{Writer}
 use Rattle.meaning.specs.declared.Thread.{Thread}
-use Rattle.meaning.specs.declared.Word.{Word}
-use Rattle.meaning.specs.declared.Word.TheVariants.{Stay, Become}
-use Rattle.meaning.specs.declared.Update.{Update}
-use Rattle.meaning.specs.declared.Update.TheVariants.{Keep, Put}
 use Rattle.meaning.specs.declared.Pass.{Pass}
 use Rattle.meaning.specs.declared.Effect.{Effect}
 use Rattle.meaning.specs.Table.{every}
@@ -76,10 +73,10 @@ passes_other : {about : Type 0} (t v w w' : ℕ) → (t ≡ v → ⊥) → Passe
 passes_other t v w w' apart (takes f _ e) = rw e (by_other t v apart ∙ sym (free-held v w f))
 passes_other t v w w' apart (gives_up h e) = rw (e, held_is t w h) (none-held v ∙ sym (by_other t v apart))
 
-pub word_kept : (about : Type 0) (t v : ℕ) → (t ≡ v → ⊥) → (c : Word) (w : ℕ) →
+pub word_kept : (about : Type 0) (t v : ℕ) → (t ≡ v → ⊥) → (c : Option ℕ) (w : ℕ) →
     Becomes c (Passes about t w) → held_by v (become c w) ≡ held_by v w
-word_kept about t v apart Stay w x = refl
-word_kept about t v apart (Become w') w x = passes_other t v w w' apart x
+word_kept about t v apart None w x = refl
+word_kept about t v apart (Some w') w x = passes_other t v w w' apart x
 
 -- what t's coming and going makes of a word of locks or owners
 pub data Became (t w w' : ℕ) : Type 0 where
@@ -110,10 +107,10 @@ became-proper t threads below few w w' (joined κ b a e) is = rw e (joins-proper
 became-proper t threads below few w w' (left κ h e) is = rw e (quits-proper threads few w is κ t h)
 
 -- an entry whose guard its writer can't have stays as it was
-pub put-kept : (c : Update) (f : ℕ → ℕ) (guard : ℕ → ℕ → Type 0) → Puts c guard → (k : ℕ) →
+pub put-kept : (c : Option (ℕ × ℕ)) (f : ℕ → ℕ) (guard : ℕ → ℕ → Type 0) → Puts c guard → (k : ℕ) →
     ((w : ℕ) → guard k w → ⊥) → put c f k ≡ f k
-put-kept Keep f guard g k lacks = refl
-put-kept (Put i w) f guard g k lacks = upd_other f i k w (λ e. lacks w (subst (λ (j : ℕ). guard j w) e g))
+put-kept None f guard g k lacks = refl
+put-kept (Some (i, w)) f guard g k lacks = upd_other f i k w (λ e. lacks w (subst (λ (j : ℕ). guard j w) e g))
 
 -- to show what counts where a flag is up, take it to be up
 where_up : (b : Bool) (A : Type 0) → (b ≡ true → If b A) → If b A

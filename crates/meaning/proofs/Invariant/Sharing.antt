@@ -1,6 +1,7 @@
 -- What the invariant says of who shares what: who is let in where a line owns, where headers and map agree, and that W5 and L3 find
 -- the free block that they ask for.
 -- Assumes nothing.
+use Rattle.std.specs.Prelude.{Some}
 use mathlib.Core.Path.{◌≡◌, refl, sym, ◌∙◌, subst}
 use mathlib.Core.Bool.{Bool, true, false, ◌&&◌, ◌||◌, and-true}
 use mathlib.Core.Logic.{inl, inr}
@@ -9,7 +10,6 @@ use lib.Dec.{eqb}
 use borrow.Author.Tests.{eqb-true}
 use Rattle.meaning.specs.declared.Kind.{Kind}
 use Rattle.meaning.specs.declared.Kind.TheVariants.{Reader, Writer}
-use Rattle.meaning.specs.declared.Found.TheVariants.{At}
 use Rattle.meaning.specs.Limits.{most_threads}
 use Rattle.meaning.specs.Store.{Store}
 use Rattle.meaning.specs.Holding.{none, free, held_by, held, admits, naming}
@@ -169,10 +169,10 @@ module _ (s : Store) (I : Inv s) where
         go (finds m b f e) = rw e (b, free-none (s.header m) f)
         go (finds-nobody all _) = absurd (not_full all)
 
-    pub to_found : (m : ℕ) × (to_block s.header s.wear s.blocks ≡ At m) × (m < s.blocks) × (s.header m ≡ none)
+    pub to_found : (m : ℕ) × (to_block s.header s.wear s.blocks ≡ Some m) × (m < s.blocks) × (s.header m ≡ none)
     to_found = go (to_finds s.header s.wear s.blocks)
       where
         go : To s.header s.wear s.blocks →
-            (m : ℕ) × (to_block s.header s.wear s.blocks ≡ At m) × (m < s.blocks) × (s.header m ≡ none)
+            (m : ℕ) × (to_block s.header s.wear s.blocks ≡ Some m) × (m < s.blocks) × (s.header m ≡ none)
         go (finds m b f e) = (m, e, b, free-none (s.header m) f)
         go (finds-nobody all _) = absurd (not_full all)

@@ -1,5 +1,6 @@
 -- The lines of level, one after the other: each has what it needs, and shows what the table says of the thread at its next line.
 -- Assumes nothing.
+use Rattle.std.specs.Prelude.{Some}
 use mathlib.Core.Path.{◌≡◌, refl, sym, ◌∙◌}
 use mathlib.Core.Bool.{false, ◌||◌, or-false, and-false}
 use Prim.Native.Nat.{ℕ, ◌<◌}
@@ -9,7 +10,6 @@ use Rattle.meaning.specs.declared.Kind.TheVariants.{Writer}
 use Rattle.meaning.specs.Store.{Store}
 use Rattle.meaning.specs.Holding.{none, free, naming, named, admits}
 use Rattle.meaning.specs.Choosing.{to_block}
-use Rattle.meaning.specs.declared.Found.TheVariants.{At}
 use Rattle.meaning.specs.Programs.{LEVEL, act_at}
 use Rattle.meaning.specs.Step.{on_content, on_map, perform, apply}
 use Rattle.meaning.proofs.Base.Words.{either_way, same, naming-named, named-below, naming_not_free, naming_once, upd_same, upd_other}
@@ -31,7 +31,7 @@ module _ (s : Store) (t : ℕ) where
   L3 : Line s t LEVEL 3
   L3 n c p q h H = let to = to_found s H.inv t H.holds.owner (λ m. rw H.is) in chosen to.0 to.1 to.2 to.3
     where
-      chosen : (to : ℕ) → to_block s.header s.wear s.blocks ≡ At to → to < s.blocks → s.header to ≡ none →
+      chosen : (to : ℕ) → to_block s.header s.wear s.blocks ≡ Some to → to < s.blocks → s.header to ≡ none →
           Fine s t (at LEVEL 3 n c p q h) (perform (act_at LEVEL 3) s t (at LEVEL 3 n c p q h))
       chosen to found below empty =
           let from = from-below s.header s.wear s.distance s.blocks to below in

@@ -1,6 +1,7 @@
 -- A thread alone: the store in which nobody but t is at work, `alone t s`. A step of t does there what it does in s; so a thread that has
 -- its place comes there to what it comes to in s, and within as many steps as the longest program has lines.
 -- Assumes nothing.
+use Rattle.std.specs.Prelude.{Option, Some, None}
 use mathlib.Core.Path.{◌≡◌, refl, sym, ap, ◌∙◌, subst, fun_ext}
 use mathlib.Core.Bool.{Bool, true, false, cond, or-true}
 use mathlib.Core.List.{List, [], ◌∷◌}
@@ -12,8 +13,6 @@ use Rattle.meaning.specs.declared.Kind.{Kind}
 use Rattle.meaning.specs.declared.Kind.TheVariants.{Reader, Writer}
 use Rattle.meaning.specs.declared.Act.{Act}
 use Rattle.meaning.specs.declared.Thread.{Thread}
-use Rattle.meaning.specs.declared.Word.{Word}
-use Rattle.meaning.specs.declared.Word.TheVariants.{Stay, Become}
 use Rattle.meaning.specs.declared.Pass.{Pass}
 use Rattle.meaning.specs.declared.Effect.{Effect}
 use Rattle.meaning.specs.declared.Verdict.TheVariants.{Blocked, Fault}
@@ -137,9 +136,9 @@ passes-mine : {about : Type 0} (t w w' : ℕ) → Passes about t w w' → w' ≡
 passes-mine t w w' (takes _ _ e) = rw (e, by_held t)
 passes-mine t w w' (gives_up _ e) = rw (e, none-held t)
 
-word-alone : (about : Type 0) (t : ℕ) (c : Word) (w : ℕ) → Becomes c (Passes about t w) → become c (mine t w) ≡ mine t (become c w)
-word-alone about t Stay w x = refl
-word-alone about t (Become w') w x = passes-mine t w w' x
+word-alone : (about : Type 0) (t : ℕ) (c : Option ℕ) (w : ℕ) → Becomes c (Passes about t w) → become c (mine t w) ≡ mine t (become c w)
+word-alone about t None w x = refl
+word-alone about t (Some w') w x = passes-mine t w w' x
 
 entry-alone : (about : Kind → ℕ → Type 0) (t : ℕ) (c : Pass) (f : ℕ → ℕ) → Joins about t f c →
     put (came (λ k. share t (f k)) c) (λ k. share t (f k)) ≡ (λ k. share t (put (came f c) f k))

@@ -2,6 +2,7 @@
 -- gives its own thread a place, a step that ends takes it away, and no other step gives or takes one, of its own thread or another.
 -- What a line does to its thread's record and to the tables is said by the shape of its act (Acts); the rest is tests at every line.
 -- Assumes nothing.
+use Rattle.std.specs.Prelude.{Some}
 use mathlib.Core.Path.{◌≡◌, refl, sym, ap, ◌∙◌, subst, fun_ext}
 use mathlib.Core.Bool.{Bool, true, false, not, ◌&&◌, ◌||◌}
 use mathlib.Core.Logic.{◌⊎◌, inl, inr}
@@ -12,7 +13,6 @@ use borrow.Author.Tests.{eqb-true, eqb-false, eq-eqb, ltb-true, not-true}
 use Rattle.meaning.specs.declared.Act.{Act}
 use Rattle.meaning.specs.declared.Thread.{Thread}
 use Rattle.meaning.specs.declared.Effect.{Effect}
-use Rattle.meaning.specs.declared.Found.TheVariants.{At}
 use Rattle.meaning.specs.declared.Verdict.{Verdict}
 use Rattle.meaning.specs.declared.Verdict.TheVariants.{Blocked, Fault, Go, Done}
 use Rattle.meaning.specs.Numbers.{WENT, FINISHED}
@@ -140,7 +140,7 @@ rules =
 -- ---- where levelling branches
 
 -- what it chose moves a block exactly where the header of `from` isn't free
-chosen-moves : (s : Store) (p q : ℕ) → to_block s.header s.wear s.blocks ≡ At q →
+chosen-moves : (s : Store) (p q : ℕ) → to_block s.header s.wear s.blocks ≡ Some q →
     from_block s.wear s.distance q (least_worn s.header s.wear s.blocks) ≡ p → s.header q ≡ none →
     moves_now s ≡ not (free (s.header p))
 chosen-moves s p q to from empty =

@@ -3,6 +3,7 @@
 -- and no register but those that it set is set. So where nobody has a place, the step by which an operation takes its last lock leads to what the
 -- operation, run whole and alone, leads to.
 -- Assumes nothing.
+use Rattle.std.specs.Prelude.{Option, Some, None}
 use mathlib.Core.Path.{◌≡◌, refl, sym, ap, ◌∙◌}
 use mathlib.Core.Bool.{true, false, cond, ◌&&◌, ◌||◌}
 use mathlib.Core.List.{List, [], ◌∷◌}
@@ -12,9 +13,6 @@ use lib.Dec.{eqb, ltb}
 use borrow.Author.Tests.{eqb-true, lt-ltb}
 use Rattle.meaning.specs.declared.Kind.{Kind}
 use Rattle.meaning.specs.declared.Thread.{Thread}
-use Rattle.meaning.specs.declared.Word.{Word}
-use Rattle.meaning.specs.declared.Word.TheVariants.{Stay, Become}
-use Rattle.meaning.specs.declared.Update.TheVariants.{Keep}
 use Rattle.meaning.specs.declared.Pass.TheVariants.{Leave}
 use Rattle.meaning.specs.declared.Effect.{Effect}
 use Rattle.meaning.specs.declared.Verdict.TheVariants.{Go}
@@ -61,16 +59,16 @@ plays-next x x' y (step t) w is P =
 -- ---- a step of a thread that has no number's lock and no block
 
 -- an effect on H and the headers' owner alone
-abbrev on_held : Word → Word → Effect
+abbrev on_held : Option ℕ → Option ℕ → Effect
 on_held a b =
-    record { lock = a; owner = b; map = Keep; locks = Leave; header = Keep; content = Keep; wear = Keep; own = Leave }
+    record { lock = a; owner = b; map = None; locks = Leave; header = None; content = None; wear = None; own = Leave }
 
 module _ (s : Store) (t : ℕ) (below : t < s.threads) where
   solo-begin : (op n c : ℕ) → within WRITE LEVEL op ≡ true → (eqb op LEVEL || ltb n s.numbers) ≡ true →
       call_store (cleared s) (begin t op n c) ≡ reply_of WENT 0 (solo s t (begun op n c) none none)
   solo-begin op n c known logical = rw (lt-ltb t s.threads below, known, logical)
 
-  solo-step : (r r' : Thread) (l o : ℕ) (a b : Word) → is_idle r ≡ false →
+  solo-step : (r r' : Thread) (l o : ℕ) (a b : Option ℕ) → is_idle r ≡ false →
       perform (act_at r.op r.line) (solo s t r l o) t r ≡ Go r' (on_held a b) →
       call_store (solo s t r l o) (step t) ≡ reply_of WENT 0 (solo s t r' (become a l) (become b o))
   solo-step r r' l o a b busy is =
@@ -107,7 +105,7 @@ module _ (s : Store) (I : Inv s) (t : ℕ) (below : t < s.threads) where
   begun_then op n c known logical {w} {y} =
       plays-next (cleared s) (solo s t (begun op n c) none none) y (begin t op n c) w (solo-begin s t below op n c known logical)
 
-  step_then : (r r' : Thread) (l o : ℕ) (a b : Word) → is_idle r ≡ false →
+  step_then : (r r' : Thread) (l o : ℕ) (a b : Option ℕ) → is_idle r ≡ false →
       perform (act_at r.op r.line) (solo s t r l o) t r ≡ Go r' (on_held a b) →
       {w : List Entry} {y : Store} → Plays (solo s t r' (become a l) (become b o)) w y → Plays (solo s t r l o) (step t ∷ w) y
   step_then r r' l o a b busy is {w} {y} =
@@ -116,7 +114,7 @@ module _ (s : Store) (I : Inv s) (t : ℕ) (below : t < s.threads) where
   replay_write : (n c : ℕ) → n < s.numbers → FromBegin (at WRITE 2 n c 0 0 0)
   replay_write n c b =
       begun_then WRITE n c refl (lt-ltb n s.numbers b)
-      (step_then (at WRITE 1 n c 0 0 0) (at WRITE 2 n c 0 0 0) none none (Become (by t)) Stay refl refl (plays-none _))
+      (step_then (at WRITE 1 n c 0 0 0) (at WRITE 2 n c 0 0 0) none none (Some (by t)) None refl refl (plays-none _))
 
   replay_read : (n : ℕ) → n < s.numbers → FromBegin (at READ 1 n 0 0 0 0)
   replay_read n b = begun_then READ n 0 refl (lt-ltb n s.numbers b) (plays-none _)
@@ -124,7 +122,7 @@ module _ (s : Store) (I : Inv s) (t : ℕ) (below : t < s.threads) where
   replay_unmap : (n : ℕ) → n < s.numbers → FromBegin (at UNMAP 2 n 0 0 0 0)
   replay_unmap n b =
       begun_then UNMAP n 0 refl (lt-ltb n s.numbers b)
-      (step_then (at UNMAP 1 n 0 0 0 0) (at UNMAP 2 n 0 0 0 0) none none (Become (by t)) Stay refl refl (plays-none _))
+      (step_then (at UNMAP 1 n 0 0 0 0) (at UNMAP 2 n 0 0 0 0) none none (Some (by t)) None refl refl (plays-none _))
 
   replay_unmoved : FromBegin (at LEVEL 1 0 0 0 0 0)
   replay_unmoved = begun_then LEVEL 0 0 refl refl (plays-none _)
@@ -133,12 +131,12 @@ module _ (s : Store) (I : Inv s) (t : ℕ) (below : t < s.threads) where
       FromBegin (at LEVEL 6 n 0 p q h)
   replay_level n p q h chosen heads names =
       begun_then LEVEL 0 0 refl refl
-      (step_then (at LEVEL 1 0 0 0 0 0) (at LEVEL 2 0 0 0 0 0) none none (Become (by t)) Stay refl refl
-      (step_then (at LEVEL 2 0 0 0 0 0) (at LEVEL 3 0 0 0 0 0) (by t) none Stay (Become (by t)) refl refl
-      (step_then (at LEVEL 3 0 0 0 0 0) (at LEVEL 4 0 0 p q 0) (by t) (by t) Stay Stay refl
+      (step_then (at LEVEL 1 0 0 0 0 0) (at LEVEL 2 0 0 0 0 0) none none (Some (by t)) None refl refl
+      (step_then (at LEVEL 2 0 0 0 0 0) (at LEVEL 3 0 0 0 0 0) (by t) none None (Some (by t)) refl refl
+      (step_then (at LEVEL 3 0 0 0 0 0) (at LEVEL 4 0 0 p q 0) (by t) (by t) None None refl
       (rw (by_held t, chosen.to, chosen.from))
-      (step_then (at LEVEL 4 0 0 p q 0) (at LEVEL 5 0 0 p q h) (by t) (by t) Stay Stay refl (rw (by_held t, heads))
-      (step_then (at LEVEL 5 0 0 p q h) (at LEVEL 6 n 0 p q h) (by t) (by t) Stay Stay refl
+      (step_then (at LEVEL 4 0 0 p q 0) (at LEVEL 5 0 0 p q h) (by t) (by t) None None refl (rw (by_held t, heads))
+      (step_then (at LEVEL 5 0 0 p q h) (at LEVEL 6 n 0 p q h) (by t) (by t) None None refl
       (rw (naming_not_free n h names, names, named-naming n)) (plays-none _))))))
 
   module _ (takes : takes_last s (s.thread t) ≡ true) (busy : is_idle (s.thread t) ≡ false) where

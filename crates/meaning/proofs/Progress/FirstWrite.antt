@@ -3,6 +3,7 @@
 -- to W14 are also those of a write to a mapped number, whose block needn't be empty; so this is said of a schedule from W8 on and not
 -- of a line.
 -- Assumes nothing.
+use Rattle.std.specs.Prelude.{None}
 use mathlib.Core.Path.{◌≡◌, refl, sym, ap, ◌∙◌, subst}
 use mathlib.Core.Bool.{Bool, true, false, ◌&&◌, ◌||◌}
 use mathlib.Core.List.{List, [], ◌∷◌}
@@ -15,7 +16,6 @@ use Rattle.meaning.specs.declared.Thread.{Thread}
 use Rattle.meaning.specs.declared.Verdict.{Verdict}
 use Rattle.meaning.specs.declared.Verdict.TheVariants.{Blocked, Fault, Go, Done}
 use Rattle.meaning.specs.declared.Act.TheVariants.{EmptyContent}
-use Rattle.meaning.specs.declared.Update.TheVariants.{Keep}
 use Rattle.meaning.specs.declared.Effect.{Effect}
 use Rattle.meaning.specs.Numbers.{FINISHED}
 use Rattle.meaning.specs.Store.{Store, idle}
@@ -52,7 +52,7 @@ HasDoneW8 t s = DoneW8 s.content (s.thread t)
 abbrev Walks : Thread → Verdict → Type 0
 Walks r Blocked = Unit {0}
 Walks r Fault = Unit {0}
-Walks r (Go r' e) = (r' ≡ onward r) × (r.line ≤ 13 → e.content ≡ Keep)
+Walks r (Go r' e) = (r' ≡ onward r) × (r.line ≤ 13 → e.content ≡ None)
 Walks r (Done v e) = Unit {0}
 
 needed : (b : Bool) (r : Thread) (v : Verdict) → Walks r v → Walks r (need b v)

@@ -1,6 +1,7 @@
 -- Over stores: headers and map agree exactly where no thread stands between W7 and W10, between U6 and U7 or between L10 and L13, so where
 -- nobody owns the headers; and whoever changes a wear holds H before and after.
 -- Assumes nothing.
+use Rattle.std.specs.Prelude.{Option, Some, None}
 use mathlib.Core.Path.{◌≡◌, refl, sym, ◌∙◌, subst}
 use mathlib.Core.Bool.{true, false, ◌&&◌, ◌||◌}
 use mathlib.Core.Logic.{◌↔◌, inl, inr}
@@ -8,8 +9,6 @@ use Prim.Native.Nat.{ℕ}
 use lib.Dec.{eqb}
 use borrow.Author.Tests.{eqb-true, eqb-false}
 use Rattle.meaning.specs.declared.Thread.{Thread}
-use Rattle.meaning.specs.declared.Update.{Update}
-use Rattle.meaning.specs.declared.Update.TheVariants.{Keep, Put}
 use Rattle.meaning.specs.declared.Effect.{Effect}
 use Rattle.meaning.specs.Store.{Store, idle}
 use Rattle.meaning.specs.Holding.{free, naming}
@@ -70,10 +69,10 @@ module _ (s : Store) (I : Inv s) where
 -- ---- wear
 
 -- an entry that changes is guarded
-put-changed : (c : Update) (f : ℕ → ℕ) (guard : ℕ → ℕ → Type 0) → Puts c guard → (m : ℕ) → (put c f m ≡ f m → ⊥) →
+put-changed : (c : Option (ℕ × ℕ)) (f : ℕ → ℕ) (guard : ℕ → ℕ → Type 0) → Puts c guard → (m : ℕ) → (put c f m ≡ f m → ⊥) →
     (w : ℕ) × guard m w
-put-changed Keep f guard g m x = absurd (x refl)
-put-changed (Put i w) f guard g m x =
+put-changed None f guard g m x = absurd (x refl)
+put-changed (Some (i, w)) f guard g m x =
     either_way (eqb i m) (λ e. (w, subst (λ (j : ℕ). guard j w) (eqb-true i m e) g))
     (λ e. absurd (x (upd_other f i m w (eqb-false i m e))))
 

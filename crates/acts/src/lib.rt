@@ -281,7 +281,16 @@ pub fn on_wear(m: u32, w: u32) -> Effect
 pub fn on_freed(m: u32, w: u32) -> Effect
     ensures { result ≡ on_freed m w }
 {
-    effect(None, None, None, Leave, Some((m, 0)), None, Some((m, w)), Leave)
+    effect(
+        None,
+        None,
+        None,
+        Leave,
+        Some((m, 0)),
+        None,
+        Some((m, w)),
+        Leave,
+    )
 }
 
 pub fn on_own(c: Pass) -> Effect

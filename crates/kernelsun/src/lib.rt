@@ -8,6 +8,9 @@ ghost use Rattle.sheet.specs.Adding.{AddMeans};
 
 use sheet::Tally;
 
+// A call's result is its number times this, and its value added.
+const PACK: u64 = 4294967296;
+
 #[unsafe(no_mangle)]
 pub extern "C" fn format(area: &mut [u8], t: u32, n: u32, p: u32, d: u32) -> u64
     ensures { FormatMeans area.old t n p d result area.new }
@@ -29,12 +32,16 @@ pub extern "C" fn step(area: &mut [u8], thread: u32) -> u64
     calls::step(area, thread)
 }
 
-// The tally is lent by reference; all that this one does is to hand it on.
+// The tally is lent by reference, and a refusal leaves it as it was.
 #[unsafe(no_mangle)]
 pub extern "C" fn add_area(tally: &mut Tally, area: &[u8]) -> u64
     ensures { AddMeans tally.old area.now result tally.new }
 {
-    let a = sheet::added(*tally, area);
-    *tally = a.tally;
-    a.result
+    match sheet::added(*tally, area) {
+        Ok(after) => {
+            *tally = after;
+            0
+        }
+        Err(why) => u64::from(u32::from(why)) * PACK,
+    }
 }

@@ -1,20 +1,18 @@
 -- A plausible tally, as facts; one that has room for some blocks, for one less each time that one is added; and the block records of a well-formed
 -- area. Assumes nothing.
-use mathlib.Core.Path.{◌≡◌, refl, sym, ap}
+use mathlib.Core.Path.{◌≡◌, refl}
 use mathlib.Core.List.{List, [], ◌∷◌}
 use mathlib.Core.Bool.{Bool, true, false, cond}
 use Prim.Native.Nat.{ℕ, zero, suc, ◌+◌, ◌-◌, ◌*◌, ◌<◌, ◌≤◌}
-use native.Mathlib.Numerals.{add-one}
 use native.Mathlib.Omega.{arith}
-use lib.Dec.{leb}
 use lib.ListN.{length}
-use borrow.Author.Tests.{leb-true, le-leb, lt-ltb}
+use Rattle.std.proofs.lemmas.Bool.{and_parts, leb-true, le-leb, lt-ltb}
 use Rattle.meaning.specs.Limits.{most_blocks, most_word}
 use Rattle.meaning.specs.Holding.{free}
 use Rattle.store.specs.Layout.{t_at, n_at, p_at, d_at, blocks_at, block_words, size}
 use Rattle.store.specs.Area.{word, decode, well_formed}
 use Rattle.store.specs.Live.{Reaches}
-use Rattle.store.proofs.Sound.{and_seven, Sizes, well_formed-sound}
+use Rattle.store.proofs.Sound.{Sizes, well_formed-sound}
 use Rattle.sheet.specs.declared.Tally.{Tally}
 use Rattle.sheet.specs.Sheet.{Block, first_blocks, store_blocks}
 use Rattle.sheet.specs.Adding.{most_areas, plausible, with_block, with_blocks}
@@ -31,18 +29,16 @@ pub record Plausible (t : Tally) : Type 0 where
 
 pub plausible-facts : (t : Tally) → plausible t ≡ true → Plausible t
 plausible-facts t e =
-    let f =
-    and_seven true true (leb t.areas most_areas) (leb t.skipped t.areas)
-    (leb t.blocks (most_blocks * (t.areas - t.skipped)))
-    (leb t.free t.blocks)
-    (leb t.sum (most_word * t.blocks))
-    e in
+    let sum = and_parts _ _ e in
+    let free = and_parts _ _ sum.0 in
+    let blocks = and_parts _ _ free.0 in
+    let skipped = and_parts _ _ blocks.0 in
     record {
-      areas = leb-true _ _ f.2;
-      skipped = leb-true _ _ f.3;
-      blocks = leb-true _ _ f.4;
-      free = leb-true _ _ f.5;
-      sum = leb-true _ _ f.6;
+      areas = leb-true _ _ skipped.0;
+      skipped = leb-true _ _ skipped.1;
+      blocks = leb-true _ _ blocks.1;
+      free = leb-true _ _ free.1;
+      sum = leb-true _ _ sum.1;
     }
 
 pub facts-plausible : {t : Tally} → Plausible t → plausible t ≡ true
@@ -71,15 +67,6 @@ room_next b n low r =
       free = omega (arith, r.free, once (free b.header));
       sum = omega (arith, r.sum);
     }
-
--- the next record of the area
-pub rows_next :
-    (t : Tally) {all : Tally} (at : ℕ → ℕ) (from k : ℕ) {header wear : ℕ} → all ≡ with_blocks t (rows_of at from k) →
-    header ≡ at (from + block_words * k) → wear ≡ at (from + block_words * k + 2) →
-    with_block all (record { header = header; wear = wear }) ≡ with_blocks t (rows_of at from (k + 1))
-rows_next t at from k e h w =
-    let place : from + block_words * k + 2 ≡ from + 2 + block_words * k = omega arith in
-    rw (e, h, w, place) (ap (λ n. with_blocks t (rows_of at from n)) (sym (add-one k)))
 
 -- ---- a well-formed area's records
 

@@ -9,7 +9,8 @@ use native.Mathlib.Nat.{ℕ_set}
 use native.Mathlib.Omega.{arith}
 use lib.Dec.{ltb}
 use lib.ListN.{length}
-use borrow.Author.Tests.{lt-ltb, le-ltb, ltb-true, ltb-false}
+use Rattle.std.proofs.Common.{Result, Ok, Err}
+use Rattle.std.proofs.lemmas.Bool.{lt-ltb, le-ltb, ltb-true, ltb-false}
 use Rattle.meaning.specs.Numbers.{WENT}
 use Rattle.meaning.specs.Limits.{most_blocks, most_word}
 use Rattle.meaning.specs.Store.{Store}
@@ -18,9 +19,12 @@ use Rattle.store.specs.Layout.{p_at}
 use Rattle.store.specs.Area.{Bytes, word, decode, well_formed}
 use Rattle.store.proofs.Bytes.{word_low}
 use Rattle.sheet.specs.declared.Tally.{Tally}
+use Rattle.sheet.specs.declared.Refusal.{Refusal}
+use Rattle.sheet.specs.declared.Refusal.TheVariants as refusal
 use Rattle.sheet.specs.Sheet.{Block, first_blocks, store_blocks, blocks_of, sheet_of}
 use Rattle.sheet.specs.Adding.{TALLY, FULL, most_areas, zeros, plausible, shown, with_block, with_blocks, counted, with_area, with_extremes}
 use Rattle.sheet.specs.Adding.{gives, add_area, AddMeans, add_all, AllBytes, FromZeros, start, call}
+use Rattle.sheet.specs.Refusal.{number_of, replied}
 use Rattle.sheet.specs.Room.{Room}
 use Rattle.sheet.proofs.Rooms.{Plausible, plausible-facts, facts-plausible, roomy, room_less, room_next, blocks-areas, sized}
 use Rattle.sheet.proofs.Turns.{area-counted, in_turn, turn-order, turn-tally}
@@ -187,6 +191,22 @@ module _ {these those : List (List ℕ)} (bytes : AllBytes these) (few : length 
 
 -- ---- a call on any tally
 
+number_same : (why other : Refusal) → number_of why ≡ number_of other → why ≡ other
+number_same refusal.Tally refusal.Tally e = refl
+number_same refusal.Tally refusal.Full e = absurd (omega (arith, e))
+number_same refusal.Full refusal.Tally e = absurd (omega (arith, e))
+number_same refusal.Full refusal.Full e = refl
+
+refused_other : (why : Refusal) → WENT ≡ number_of why → ⊥
+refused_other refusal.Tally e = omega (arith, e)
+refused_other refusal.Full e = omega (arith, e)
+
+replied-same : (t : Tally) (r r' : Result Tally Refusal) → replied t r ≡ replied t r' → r ≡ r'
+replied-same t (Ok after) (Ok after') e = ap Ok (ap (λ x. x.after) e)
+replied-same t (Ok after) (Err why) e = absurd (refused_other why (ap (λ x. x.number) e))
+replied-same t (Err why) (Ok after) e = absurd (refused_other why (sym (ap (λ x. x.number) e)))
+replied-same t (Err why) (Err other) e = ap Err (number_same why other (ap (λ x. x.number) e))
+
 module _ (t : Tally) (a : List ℕ) where
   -- where it isn't WENT that comes back, the tally is as it was
   pub refused-leaves : ((add_area t a).number ≡ WENT → ⊥) → (add_area t a).after ≡ t
@@ -204,6 +224,10 @@ module _ (t : Tally) (a : List ℕ) where
 
   pub add_determined : {r r' : ℕ} {x x' : Tally} → AddMeans t a r x → AddMeans t a r' x' → (r ≡ r') × (x ≡ x')
   add_determined one two = (one.0 ∙ sym two.0, one.1 ∙ sym two.1)
+
+  -- and of the code's results one alone has the reply
+  pub added_determined : (r r' : Result Tally Refusal) → replied t r ≡ add_area t a → replied t r' ≡ add_area t a → r ≡ r'
+  added_determined r r' one two = replied-same t r r' (one ∙ sym two)
 
 -- ---- least and most before the first block
 

@@ -8,7 +8,8 @@ use native.Mathlib.Numerals.{add-one}
 use native.Mathlib.Omega.{arith}
 use lib.Dec.{eqb}
 use lib.ListN.{length}
-use borrow.Author.Tests.{ne_eqb}
+use Rattle.std.proofs.lemmas.Bool.{ne_eqb}
+use Rattle.std.proofs.Math.Nat.{add_comm, add_right_comm}
 use Rattle.meaning.specs.Holding.{free}
 use Rattle.meaning.proofs.Base.Words.{either_way}
 use Rattle.store.specs.Area.{well_formed}
@@ -36,19 +37,16 @@ module _ (seen x y : ℕ) where
       by_test true = omega arith
       by_test false = omega arith
 
-add_swap : (n x y : ℕ) → n + x + y ≡ n + y + x
-add_swap n x y = omega arith
-
 block-block : (t : Tally) (b c : Block) → with_block (with_block t b) c ≡ with_block (with_block t c) b
 block-block t b c i =
     record {
       areas = t.areas;
       skipped = t.skipped;
       blocks = t.blocks + 1 + 1;
-      free = add_swap t.free (cond (free b.header) 1 0) (cond (free c.header) 1 0) i;
+      free = add_right_comm t.free (cond (free b.header) 1 0) (cond (free c.header) 1 0) i;
       least = lesser_swap t.blocks b.wear c.wear t.least i;
       most = greater_swap t.blocks b.wear c.wear t.most i;
-      sum = add_swap t.sum b.wear c.wear i;
+      sum = add_right_comm t.sum b.wear c.wear i;
     }
 
 blocks-block : (t : Tally) (b : Block) (cs : List Block) → with_blocks (with_block t b) cs ≡ with_block (with_blocks t cs) b
@@ -67,7 +65,7 @@ counted-counted : (t : Tally) (j k : ℕ) → counted j (counted k t) ≡ counte
 counted-counted t j k i =
     record {
       areas = t.areas + 1 + 1;
-      skipped = add_swap t.skipped k j i;
+      skipped = add_right_comm t.skipped k j i;
       blocks = t.blocks;
       free = t.free;
       least = t.least;
@@ -137,19 +135,16 @@ most_tally : (b : Block) (bs : List Block) → greater (length bs) (most_wear bs
 most_tally b [] = refl
 most_tally b (c ∷ bs) = rw (ne_eqb (length (c ∷ bs)) 0 (λ e. omega arith))
 
-add_flip : (x y : ℕ) → x + y ≡ y + x
-add_flip x y = omega arith
-
 block-tally : (n k : ℕ) (b : Block) (bs : List Block) → with_block (tally_of n k bs) b ≡ tally_of n k (b ∷ bs)
 block-tally n k b bs i =
     record {
       areas = n;
       skipped = k;
       blocks = add-one (length bs) i;
-      free = add_flip (free_blocks bs) (cond (free b.header) 1 0) i;
+      free = add_comm (free_blocks bs) (cond (free b.header) 1 0) i;
       least = least-tally b bs i;
       most = most_tally b bs i;
-      sum = add_flip (sum_of_wear bs) b.wear i;
+      sum = add_comm (sum_of_wear bs) b.wear i;
     }
 
 blocks-tally : (n k : ℕ) (bs cs : List Block) → with_blocks (tally_of n k bs) cs ≡ tally_of n k (cs ++ bs)
@@ -163,4 +158,4 @@ turn-tally (a ∷ more) =
     ∙ ap (λ x. with_area x a) (turn-tally more)
     ∙ area-counted (tally_of (length more) (malformed more) (all_blocks more)) a
     ∙ ap (counted (skips a)) (blocks-tally (length more) (malformed more) (all_blocks more) (blocks_of a))
-    ∙ (λ i. tally_of (add-one (length more) i) (add_flip (malformed more) (skips a) i) (all_blocks (a ∷ more)))
+    ∙ (λ i. tally_of (add-one (length more) i) (add_comm (malformed more) (skips a) i) (all_blocks (a ∷ more)))

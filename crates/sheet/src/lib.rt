@@ -3,15 +3,14 @@
 // proofs/Sheets.antt. The area is read through `&` and never changed.
 #![tactic(auto)]
 
-ghost use Rattle.std.specs.Prelude.{◌≡◌, true, cond, ◌+◌, ◌<◌, ◌≤◌};
+ghost use Rattle.std.specs.Prelude.{◌≡◌, true, cond, List, ℕ, ◌<◌, ◌≤◌, ◌+◌, MatchResult};
 ghost use Rattle.meaning.specs.Limits.{most_blocks};
-ghost use Rattle.meaning.specs.Holding.{free};
 ghost use Rattle.store.specs.Layout.{block_words};
 ghost use Rattle.store.specs.Area.{word, well_formed, decode};
 ghost use Rattle.store.specs.Live.{Reaches};
 ghost use Rattle.sheet.specs.Sheet.{store_blocks};
-ghost use Rattle.sheet.specs.Adding.{most_areas, zeros as zeros_of, plausible as plausible_of};
-ghost use Rattle.sheet.specs.Adding.{lesser as lesser_of, greater as greater_of, with_block, with_blocks, counted as counted_of, AddMeans};
+ghost use Rattle.sheet.specs.Adding.{most_areas, zeros as zeros_of, plausible, with_block, with_blocks, counted, gives, add_area};
+ghost use Rattle.sheet.specs.Refusal.{number_of, replied};
 ghost use Rattle.sheet.specs.Room.{Room, rows_of};
 
 use store::Store;
@@ -20,7 +19,7 @@ use store::Store;
 
 // What was seen so far. Before the first block, `least` and `most` mean nothing.
 #[repr(C)]
-#[derive(Clone, Copy)]
+#[derive(Clone, Copy, Default)]
 pub struct Tally {
     pub areas: u32,
     pub skipped: u32,
@@ -31,11 +30,11 @@ pub struct Tally {
     pub sum: u64,
 }
 
-// What comes of adding an area: number and value, packed, and the tally then.
-#[derive(Clone, Copy)]
-pub struct Addition {
-    pub result: u64,
-    pub tally: Tally,
+// Why an area isn't added: the tally is none that these calls leave, or has its 200 areas.
+#[derive(Clone, Copy, PartialEq, Eq, Debug)]
+pub enum Refusal {
+    Tally = 29,
+    Full = 30,
 }
 
 // Skipped areas are counted.
@@ -46,158 +45,121 @@ const MOST_BLOCKS: u32 = Store::MAX_P as u32;
 
 const MOST_WEAR: u64 = 4294967295;
 
-// Numbers given back, as the results that have them beside value 0.
-const WENT: u64 = 0;
-
-const TALLY: u64 = 29 * 4294967296;
-
-pub const FULL: u64 = 30 * 4294967296;
-
 // What a sheet starts from.
 pub fn zeros() -> Tally
     ensures { result ≡ zeros_of }
 {
-    Tally {
-        areas: 0,
-        skipped: 0,
-        blocks: 0,
-        free: 0,
-        least: 0,
-        most: 0,
-        sum: 0,
-    }
+    Tally::default()
 }
 
-// None of the five things that TALLY is for.
-fn plausible(t: Tally) -> bool
-    ensures { result ≡ plausible_of t }
-{
-    if MOST_AREAS < t.areas {
-        return false;
+// The number that is given back for a refusal.
+impl From<Refusal> for u32 {
+    ghost from_gives = { λ why number. number ≡ number_of why };
+
+    fn from(why: Refusal) -> u32 {
+        why as u32
     }
-    if t.areas < t.skipped {
-        return false;
-    }
-    if MOST_BLOCKS * (t.areas - t.skipped) < t.blocks {
-        return false;
-    }
-    (t.free <= t.blocks) & (t.sum <= MOST_WEAR * t.blocks as u64)
 }
 
 // ---- adding
 
-// 1 for the header of a free block.
-fn is_free(header: u32) -> u32
-    ensures { result ≡ cond (free header) 1 0 }
-{
-    if header == 0 { 1 } else { 0 }
-}
-
-// The least wear, and the most, after a block more.
-fn lesser(seen: u32, least: u32, wear: u32) -> u32
-    ensures { result ≡ lesser_of seen least wear }
-{
-    if seen == 0 {
-        return wear;
+// That there is room stands in clauses and is no invariant of the type: C lends any record as a tally, and `is_plausible` has to refuse it.
+impl Tally {
+    // None of the five things that a tally is refused for.
+    fn is_plausible(self) -> bool
+        ensures { result ≡ plausible self }
+    {
+        self.areas <= MOST_AREAS
+            && self.skipped <= self.areas
+            && self.blocks <= MOST_BLOCKS * (self.areas - self.skipped)
+            && self.free <= self.blocks
+            && self.sum <= MOST_WEAR * u64::from(self.blocks)
     }
-    if wear < least { wear } else { least }
-}
 
-fn greater(seen: u32, most: u32, wear: u32) -> u32
-    ensures { result ≡ greater_of seen most wear }
-{
-    if seen == 0 {
-        return wear;
+    // Nothing, where it takes an area more; else why it doesn't, whatever the area.
+    fn check(self) -> Result<(), Refusal>
+        ensures { MatchResult result
+            (λ _. (plausible self ≡ true) × (self.areas < most_areas))
+            (λ why. (a : List ℕ) → add_area self a ≡ gives (number_of why) self) }
+    {
+        if !self.is_plausible() {
+            return Err(Refusal::Tally);
+        }
+        if MOST_AREAS <= self.areas {
+            return Err(Refusal::Full);
+        }
+        Ok(())
     }
-    if most < wear { wear } else { most }
-}
 
-// A block more.
-fn with_block(t: Tally, header: u32, wear: u32) -> Tally
-    requires { Room t 1 }
-    ensures { result ≡ with_block t (record { header = header; wear = wear }) }
-{
-    Tally {
-        areas: t.areas,
-        skipped: t.skipped,
-        blocks: t.blocks + 1,
-        free: t.free + is_free(header),
-        least: lesser(t.blocks, t.least, wear),
-        most: greater(t.blocks, t.most, wear),
-        sum: t.sum + wear as u64,
+    // A block more.
+    fn with_block(self, header: u32, wear: u32) -> Tally
+        requires { Room self 1 }
+        ensures { result ≡ with_block self (record { header = header; wear = wear }) }
+    {
+        let (least, most) = if self.blocks == 0 {
+            (wear, wear)
+        } else {
+            (wear.min(self.least), wear.max(self.most))
+        };
+        Tally {
+            blocks: self.blocks + 1,
+            free: self.free + u32::from(header == 0),
+            least,
+            most,
+            sum: self.sum + u64::from(wear),
+            ..self
+        }
     }
-}
 
-// All blocks of a store, from the area's words: so many records from word `from` on.
-fn with_blocks(t: Tally, area: &[u8], from: usize, count: usize) -> Tally
-    requires { Room t count × Reaches area.now (from + 2) block_words count }
-    ensures { result ≡ with_blocks t (rows_of (word area.now) from count) }
-{
-    let mut all = t;
-    let mut k: usize = 0;
-    while k < count {
-        let cell = from + store::BLOCK_WORDS * k;
-        all = with_block(
-            all,
-            store::word_at(area, cell),
-            store::word_at(area, cell + store::WEAR),
-        );
-        k += 1;
+    // All blocks of a store, from the area's words: so many records from word `from` on.
+    fn with_blocks(self, area: &[u8], from: usize, count: usize) -> Tally
+        requires { Room self count × Reaches area.now (from + 2) block_words count }
+        ensures { result ≡ with_blocks self (rows_of (word area.now) from count) }
+    {
+        let mut all = self;
+        for k in 0..count {
+            let cell = from + store::BLOCK_WORDS * k;
+            all = all.with_block(
+                store::word_at(area, cell),
+                store::word_at(area, cell + store::WEAR),
+            );
+        }
+        all
     }
-    all
-}
 
-// An area more, and so many skipped ones: 1 if it was malformed.
-fn counted(t: Tally, skips: u32) -> Tally
-    requires { (t.areas < most_areas) × (t.skipped ≤ t.areas) × (skips ≤ 1) }
-    ensures { result ≡ counted_of skips t }
-{
-    Tally {
-        areas: t.areas + 1,
-        skipped: t.skipped + skips,
-        blocks: t.blocks,
-        free: t.free,
-        least: t.least,
-        most: t.most,
-        sum: t.sum,
+    // A well-formed area's blocks.
+    #[tactic(auto, using(crate::proofs::Rooms::headed, crate::proofs::Rooms::sized))]
+    fn with_store(self, area: &[u8]) -> Tally
+        requires { Room self most_blocks × (well_formed area.now ≡ true) }
+        ensures { result ≡ with_blocks self (store_blocks (decode area.now)) }
+    {
+        let threads = store::word_at(area, store::T_AT) as usize;
+        let numbers = store::word_at(area, store::N_AT) as usize;
+        let blocks = store::word_at(area, store::P_AT) as usize;
+        self.with_blocks(area, store::blocks_at(threads, numbers), blocks)
     }
-}
 
-// A well-formed area's blocks.
-fn with_store(t: Tally, area: &[u8]) -> Tally
-    requires { Room t most_blocks × (well_formed area.now ≡ true) }
-    ensures { result ≡ with_blocks t (store_blocks (decode area.now)) }
-{
-    let threads = store::word_at(area, store::T_AT) as usize;
-    let numbers = store::word_at(area, store::N_AT) as usize;
-    let blocks = store::word_at(area, store::P_AT) as usize;
-    with_blocks(t, area, store::blocks_at(threads, numbers), blocks)
+    // An area more, and if it was malformed a skipped one more.
+    fn counted(self, malformed: bool) -> Tally
+        requires { (self.areas < most_areas) × (self.skipped ≤ self.areas) }
+        ensures { result ≡ counted (cond malformed 1 0) self }
+    {
+        Tally {
+            areas: self.areas + 1,
+            skipped: self.skipped + u32::from(malformed),
+            ..self
+        }
+    }
 }
 
 // Adds an area to a tally. The exported `add_area` is this function behind a reference.
-pub fn added(tally: Tally, area: &[u8]) -> Addition
-    ensures { AddMeans tally area.now result.result result.tally }
+pub fn added(tally: Tally, area: &[u8]) -> Result<Tally, Refusal>
+    ensures { replied tally result ≡ add_area tally area.now }
 {
-    if !plausible(tally) {
-        return Addition {
-            result: TALLY,
-            tally,
-        };
-    }
-    if MOST_AREAS <= tally.areas {
-        return Addition {
-            result: FULL,
-            tally,
-        };
-    }
-    if !store::well_formed(area) {
-        return Addition {
-            result: WENT,
-            tally: counted(tally, 1),
-        };
-    }
-    Addition {
-        result: WENT,
-        tally: counted(with_store(tally, area), 0),
+    tally.check()?;
+    if store::well_formed(area) {
+        Ok(tally.with_store(area).counted(false))
+    } else {
+        Ok(tally.counted(true))
     }
 }

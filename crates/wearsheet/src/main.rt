@@ -4,36 +4,25 @@
 // page of what was added is printed.
 #![tactic(auto)]
 
-ghost use Rattle.std.specs.Prelude.{◌≡◌, ◌≤◌, length, take};
+ghost use Rattle.std.specs.Prelude.{◌≡◌};
+ghost use Rattle.std.specs.ControlFlow.{MatchControlFlow};
+ghost use Rattle.std.specs.Io.{ReadsAtMost};
 ghost use Rattle.sheet.specs.Adding.{add_area};
 
-use sheet::{Addition, Tally};
+use sheet::{Refusal, Tally};
 use std::env::{Env, FillError};
 use std::fmt::InlineText;
 use std::fs::{self, Files};
 use std::io::{self, ErrorKind, Read, Write};
+use std::ops::ControlFlow;
 use std::str;
 use store::Store;
 
 // A byte more than the longest area has, by which a longer file shows.
 const MOST_READ: usize = Store::LONGEST + 1;
 
-// A call's result is its number times this, and its value added.
-const PACK: u64 = 4294967296;
-
-// What was read of a file: how many bytes, and why a read failed after them, if one did.
-#[derive(Clone, Copy)]
-struct Got {
-    failed: Option<io::Error>,
-    count: usize,
-}
-
 // What comes of an argument: the tally then, and whether more files are read.
-#[derive(Clone, Copy)]
-struct Turn {
-    tally: Tally,
-    more: bool,
-}
+type Turn = ControlFlow<Tally, Tally>;
 
 // ---- standard error
 
@@ -43,10 +32,10 @@ fn say(to: &mut impl Write, name: &[u8], what: &[u8]) {
     to.write_all(what).ok();
 }
 
-fn say_refused(to: &mut impl Write, name: &[u8], res: u64) {
+fn say_refused(to: &mut impl Write, name: &[u8], why: Refusal) {
     say(to, name, b": refused with ");
-    write!(to, "{}", res / PACK).ok();
-    if res == sheet::FULL {
+    write!(to, "{}", u32::from(why)).ok();
+    if why == Refusal::Full {
         to.write_all(b" (FULL): the sheet has its 200 areas").ok();
     }
     to.write_all(b"; no more files are read\n").ok();
@@ -54,10 +43,9 @@ fn say_refused(to: &mut impl Write, name: &[u8], res: u64) {
 
 // The system's reason alone, of an error as it is shown, which has its code behind it.
 fn reason_of(shown: &str) -> &str {
-    match shown.rsplit_once(" (os error ") {
-        Some((reason, _)) => reason,
-        None => shown,
-    }
+    shown
+        .rsplit_once(" (os error ")
+        .map_or(shown, |(reason, _)| reason)
 }
 
 fn say_why(to: &mut impl Write, name: &[u8], why: io::Error) {
@@ -69,55 +57,6 @@ fn say_why(to: &mut impl Write, name: &[u8], why: io::Error) {
 
 // ---- a file
 
-// Reads until the buffer is full, the file ends or a read fails.
-fn read_area(file: &mut impl Read, area: &mut [u8]) -> Got
-    ensures { (result.count ≤ length area.new) × (result.count ≡ length (take result.count area.new)) }
-{
-    let mut count: usize = 0;
-    while count < area.len() {
-        match file.read(&mut area[count..]) {
-            Ok(0) => break,
-            Ok(more) => count += more,
-            Err(why) => {
-                return Got {
-                    failed: Some(why),
-                    count,
-                };
-            }
-        }
-    }
-    Got {
-        failed: None,
-        count,
-    }
-}
-
-// Adds what was read of a file, and says if it was skipped or refused.
-fn add_bytes(to: &mut impl Write, tally: Tally, name: &[u8], area: &[u8]) -> Turn
-    ensures { result.tally ≡ (add_area tally area.now).after }
-{
-    let Addition {
-        result,
-        tally: after,
-    } = sheet::added(tally, area);
-    if result != 0 {
-        say_refused(to, name, result);
-        return Turn {
-            tally: after,
-            more: false,
-        };
-    }
-    if Store::LONGEST < area.len() {
-        say(to, name, b": too long for an area, skipped\n");
-    } else if tally.skipped < after.skipped {
-        say(to, name, b": malformed, skipped\n");
-    }
-    Turn {
-        tally: after,
-        more: true,
-    }
-}
-
 // The file of that name. One whose name is no UTF-8 can't be named to the system.
 fn open_file<R: Files>(rt: &R, name: &[u8]) -> io::Result<R::File> {
     match str::from_utf8(name) {
@@ -126,23 +65,58 @@ fn open_file<R: Files>(rt: &R, name: &[u8]) -> io::Result<R::File> {
     }
 }
 
+// Reads until the buffer is full, the file ends or a read fails: how many bytes came.
+fn read_area(file: &mut impl Read, area: &mut [u8]) -> io::Result<usize>
+    ensures { ReadsAtMost result area.new }
+{
+    let mut count: usize = 0;
+    while count < area.len() {
+        match file.read(&mut area[count..])? {
+            0 => break,
+            more => count += more,
+        }
+    }
+    Ok(count)
+}
+
+fn read_file<R: Files>(rt: &R, name: &[u8], area: &mut [u8]) -> io::Result<usize>
+    ensures { ReadsAtMost result area.new }
+{
+    let mut file = open_file(rt, name)?;
+    read_area(&mut file, area)
+}
+
+// Adds what was read of a file, and says if it was skipped or refused.
+fn add_bytes(to: &mut impl Write, tally: Tally, name: &[u8], area: &[u8]) -> Turn
+    ensures { MatchControlFlow result
+        (λ after. after ≡ (add_area tally area.now).after)
+        (λ after. after ≡ (add_area tally area.now).after) }
+{
+    match sheet::added(tally, area) {
+        Ok(after) => {
+            if Store::LONGEST < area.len() {
+                say(to, name, b": too long for an area, skipped\n");
+            } else if tally.skipped < after.skipped {
+                say(to, name, b": malformed, skipped\n");
+            }
+            Turn::Continue(after)
+        }
+        Err(why) => {
+            say_refused(to, name, why);
+            Turn::Break(tally)
+        }
+    }
+}
+
 // Adds a file, if it can be read.
 fn add_file<R: Files>(rt: &R, to: &mut impl Write, tally: Tally, name: &[u8]) -> Turn {
-    let mut file = match open_file(rt, name) {
-        Ok(file) => file,
+    let mut area = [0u8; MOST_READ];
+    match read_file(rt, name, &mut area) {
+        Ok(count) => add_bytes(to, tally, name, &area[..count]),
         Err(why) => {
             say_why(to, name, why);
-            return Turn { tally, more: true };
+            Turn::Continue(tally)
         }
-    };
-    let mut area = [0u8; MOST_READ];
-    let got = read_area(&mut file, &mut area);
-    match got.failed {
-        Some(why) => {
-            say_why(to, name, why);
-            Turn { tally, more: true }
-        }
-        None => add_bytes(to, tally, name, &area[..got.count]),
     }
 }
 
@@ -155,9 +129,9 @@ fn add_argument<R: Env + Files>(rt: &R, to: &mut impl Write, tally: Tally, i: us
         Ok(length) => add_file(rt, to, tally, &name[..length]),
         Err(FillError::TooLong) => {
             say(to, &name, b": File name too long\n");
-            Turn { tally, more: true }
+            Turn::Continue(tally)
         }
-        Err(FillError::NotPresent) => Turn { tally, more: false },
+        Err(FillError::NotPresent) => Turn::Break(tally),
     }
 }
 
@@ -165,10 +139,9 @@ fn add_argument<R: Env + Files>(rt: &R, to: &mut impl Write, tally: Tally, i: us
 fn add_arguments<R: Env + Files>(rt: &R, to: &mut impl Write) -> Tally {
     let mut tally = sheet::zeros();
     for i in 1..usize::MAX {
-        let turn = add_argument(rt, to, tally, i);
-        tally = turn.tally;
-        if !turn.more {
-            break;
+        match add_argument(rt, to, tally, i) {
+            Turn::Continue(after) => tally = after,
+            Turn::Break(after) => return after,
         }
     }
     tally
@@ -179,8 +152,7 @@ fn main(rt: HostRuntime) {
     let tally = add_arguments(&rt, &mut err);
     let mut out = [0u8; page::ROOM];
     let end = page::put_page(&mut out, tally);
-    match rt.stdout().write_all(&out[..end]) {
-        Ok(()) => {}
-        Err(why) => say_why(&mut err, b"standard output", why),
+    if let Err(why) = rt.stdout().write_all(&out[..end]) {
+        say_why(&mut err, b"standard output", why);
     }
 }

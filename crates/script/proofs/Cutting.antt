@@ -1,56 +1,56 @@
--- Laws of the lines of an input: what `lines` comes to when the first newline is looked for byte after byte. Assumes nothing.
+-- Laws of the lines of an input: what `lines` comes to at the first newline, or with none. Assumes nothing.
 use mathlib.Core.Bool.{false}
-use mathlib.Core.Path.{◌≡◌, refl, ap}
-use mathlib.Core.List.{List, [], ◌∷◌, ◌++◌}
-use Prim.Native.Nat.{ℕ, suc, ◌+◌, ◌-◌, ◌≤◌, ◌<◌}
-use native.Mathlib.Numerals.{add-one}
+use mathlib.Core.Path.{◌≡◌, refl, sym, ap}
+use mathlib.Core.List.{List, [], ◌∷◌}
+use Prim.Native.Nat.{ℕ, zero, suc, ◌+◌, ◌-◌, ◌≤◌, ◌<◌}
 use native.Mathlib.Omega.{arith}
 use borrow.Author.Tests.{eq-eqb, ne_eqb}
 use lib.ListN.{length, get_or, take, drop, length-drop}
-use lib.Seq.{drop-cons, take-suc, get_or-drop}
-use Rattle.script.specs.Syntax.{NEWLINE, Lines, end, torn, line, onto, lines}
+use lib.Seq.{get_or-drop, drop-drop}
+use Rattle.std.specs.Prelude.{◌≢◌}
+use Rattle.script.specs.Syntax.{NEWLINE, torn, line, onto, lines}
 
--- ---- bytes before the lines of what follows them
+-- ---- at the front
 
--- none of the bytes is a newline
-abbrev pub prefixed : List ℕ → Lines → Lines
-prefixed [] ls = ls
-prefixed (c ∷ cs) ls = onto false c (prefixed cs ls)
+-- no byte before the place is a newline
+abbrev pub Passed : List ℕ → ℕ → Type 0
+Passed s n = (k : ℕ) → k < n → get_or s k 0 ≢ NEWLINE
 
-pub prefixed-line : (l : List ℕ) (ls : Lines) → prefixed l (line [] ls) ≡ line l ls
-prefixed-line [] ls = refl
-prefixed-line (c ∷ cs) ls = ap (onto false c) (prefixed-line cs ls)
+line_front : (s : List ℕ) (n : ℕ) → n < length s → Passed s n → get_or s n 0 ≡ NEWLINE → line (take n s) (lines (drop (n + 1) s)) ≡ lines s
+line_front [] n inside passed here = absurd (omega arith)
+line_front (c ∷ cs) zero inside passed here = rw (eq-eqb _ _ here)
+line_front (c ∷ cs) (suc n) inside passed here =
+    let e : suc n + 1 ≡ suc (n + 1) = omega arith in
+    rw (e, ne_eqb _ _ (passed 0 (omega arith)))
+    (ap (onto false c) (line_front cs n (omega arith) (λ k h. passed (suc k) (omega arith)) here))
 
-prefixed-end : (c : ℕ) (cs : List ℕ) → prefixed (c ∷ cs) end ≡ torn
-prefixed-end c [] = refl
-prefixed-end c (d ∷ ds) = ap (onto false c) (prefixed-end d ds)
+-- after one byte more that is none
+torn_after : (c : ℕ) (cs : List ℕ) → Passed cs (length cs) → onto false c (lines cs) ≡ torn
+torn_after c [] passed = refl
+torn_after c (d ∷ ds) passed =
+    rw (ne_eqb _ _ (passed 0 (omega arith))) (ap (onto false c) (torn_after d ds (λ k h. passed (suc k) (omega arith))))
 
-pub prefixed-torn : (l : List ℕ) → 0 < length l → prefixed l end ≡ torn
-prefixed-torn [] h = absurd (omega arith)
-prefixed-torn (c ∷ cs) h = prefixed-end c cs
+torn_front : (s : List ℕ) → 0 < length s → Passed s (length s) → torn ≡ lines s
+torn_front [] some passed = absurd (omega arith)
+torn_front (c ∷ cs) some passed =
+    rw (ne_eqb _ _ (passed 0 (omega arith))) (sym (torn_after c cs (λ k h. passed (suc k) (omega arith))))
 
-prefixed-more : (l : List ℕ) (c : ℕ) (ls : Lines) → prefixed (l ++ (c ∷ [])) ls ≡ prefixed l (onto false c ls)
-prefixed-more [] c ls = refl
-prefixed-more (b ∷ bs) c ls = ap (onto false b) (prefixed-more bs c ls)
+-- ---- from a place on
 
--- ---- the first newline of a list from a place on
+module _ (s : List ℕ) (at : ℕ) where
+  passed_from : (e : ℕ) → ((k : ℕ) → at ≤ k → k < e → get_or s k 0 ≢ NEWLINE) → Passed (drop at s) (e - at)
+  passed_from e passed k h = rw get_or-drop (passed (at + k) (omega arith) (omega arith))
 
-module _ (s : List ℕ) (at e : ℕ) (from : at ≤ e) (inside : e < length s) where
-  -- one byte more
-  taken_more : take (e + 1 - at) (drop at s) ≡ take (e - at) (drop at s) ++ (get_or s e 0 ∷ [])
-  taken_more =
-      let n : e + 1 - at ≡ suc (e - at) = omega arith in
+  pub line-at :
+      (e : ℕ) → at ≤ e → e < length s → ((k : ℕ) → at ≤ k → k < e → get_or s k 0 ≢ NEWLINE) → get_or s e 0 ≡ NEWLINE
+      → line (take (e - at) (drop at s)) (lines (drop (e + 1) s)) ≡ lines (drop at s)
+  line-at e from inside passed here =
+      let n : at + (e - at + 1) ≡ e + 1 = omega arith in
       let m : at + (e - at) ≡ e = omega arith in
-      let h : e - at < length (drop at s) = rw length-drop (omega arith) in
-      rw (n, take-suc (drop at s) (e - at) 0 h, get_or-drop, m)
+      let long : e - at < length (drop at s) = rw length-drop (omega arith) in
+      let whole = line_front (drop at s) (e - at) long (passed_from e passed) (rw (get_or-drop, m) here) in
+      rw (drop-drop (e - at + 1) at s, n) at whole
 
-  pub lines_at_newline :
-      get_or s e 0 ≡ NEWLINE → prefixed (take (e - at) (drop at s)) (lines (drop e s))
-      ≡ line (take (e - at) (drop at s)) (lines (drop (e + 1) s))
-  lines_at_newline h = rw (add-one, drop-cons s e 0 inside, eq-eqb _ _ h) (prefixed-line _ _)
-
-  pub lines-past :
-      (get_or s e 0 ≡ NEWLINE → ⊥) → prefixed (take (e - at) (drop at s)) (lines (drop e s))
-      ≡ prefixed (take (e + 1 - at) (drop at s)) (lines (drop (e + 1) s))
-  lines-past h =
-      rw (taken_more, prefixed-more, add-one, drop-cons s e 0 inside, ne_eqb _ _ h)
+  pub torn-at : at < length s → ((k : ℕ) → at ≤ k → k < length s → get_or s k 0 ≢ NEWLINE) → torn ≡ lines (drop at s)
+  torn-at inside passed =
+      torn_front (drop at s) (rw length-drop (omega arith)) (rw length-drop (passed_from (length s) passed))

@@ -9,8 +9,9 @@ use borrow.Author.Tests.{le-leb, lt-leb}
 use lib.Dec.{eqb}
 use lib.ListN.{length, take, drop, length-take, length-drop}
 use Rattle.meaning.specs.Call.{Reply}
-use Rattle.script.specs.declared.Command.TheVariants.{Bad}
-use Rattle.script.specs.Syntax.{BLANK, LETTER_F, LETTER_B, LETTER_S, missing, field, lettered, command, line, lines}
+use Rattle.std.specs.Prelude.{Option, None}
+use Rattle.script.specs.declared.Command.{Command}
+use Rattle.script.specs.Syntax.{BLANK, missing, field, lettered, command, line, lines}
 use Rattle.script.specs.Printing.{printed, most_printed, Wrote}
 use Rattle.script.specs.Output.{FORM, LONG, most_input, most_output, stopped, replied, heard, answers, output, fitting}
 use Rattle.script.specs.Positions.{word_range, taken, Roomy}
@@ -22,19 +23,19 @@ cond_same : {A : Type 0} (b : Bool) (x : A) → cond b x x ≡ x
 cond_same true x = refl
 cond_same false x = refl
 
-lettered_bad : (c : ℕ) (cs : List ℕ) → field cs ≡ missing → lettered c cs ≡ Bad
-lettered_bad c cs e =
-    rw (e, cond_same (eqb c LETTER_S) Bad, cond_same (eqb c LETTER_B) Bad, cond_same (eqb c LETTER_F) Bad)
+lettered_none : (c : ℕ) (cs : List ℕ) → field cs ≡ missing → lettered c cs ≡ None
+lettered_none c cs e =
+    simp (e, cond_same {A = Option Command})
 
-command-long : (l : List ℕ) → (command l ≡ Bad → ⊥) → 3 ≤ length l
+command-long : (l : List ℕ) → (command l ≡ None → ⊥) → 3 ≤ length l
 command-long [] h = absurd (h refl)
-command-long (c ∷ []) h = absurd (h (lettered_bad c [] refl))
-command-long (c ∷ d ∷ []) h = absurd (h (lettered_bad c (d ∷ []) (cond_same (eqb d BLANK) missing)))
+command-long (c ∷ []) h = absurd (h (lettered_none c [] refl))
+command-long (c ∷ d ∷ []) h = absurd (h (lettered_none c (d ∷ []) (cond_same (eqb d BLANK) missing)))
 command-long (c ∷ d ∷ e ∷ l) h = omega arith
 
 pub replied-long : (a l : List ℕ) (r : Reply (List ℕ)) → replied r ≡ heard a (command l) → 3 ≤ length l
 replied-long a l r e =
-    command-long l (λ bad. let z : replied r ≡ stopped = e ∙ ap (heard a) bad in let z' : ◌≡◌ {A = ℕ} 0 1 = cc in omega arith)
+    command-long l (λ none. let z : replied r ≡ stopped = e ∙ ap (heard a) none in let z' : ◌≡◌ {A = ℕ} 0 1 = cc in omega arith)
 
 -- ---- what a line adds
 

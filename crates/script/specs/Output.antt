@@ -1,12 +1,12 @@
 -- 01, "The script program": what is printed for a whole input. The store is the area of the last accepted `f`; before it there is none,
 -- which is the empty area: that `b` and `s` then answer SHAPE is what begin and step say of it.
-use Rattle.std.specs.Prelude.{cond, List, [], ◌++◌, ℕ, ◌+◌, ◌*◌, length, replicate, eqb, leb}
+use Rattle.std.specs.Prelude.{cond, List, [], ◌++◌, ℕ, ◌+◌, ◌*◌, length, replicate, eqb, leb, Option, None, Some}
 use Rattle.meaning.specs.Numbers.{WENT}
 use Rattle.meaning.specs.Call.{Reply}
 use Rattle.store.specs.Layout.{size}
 use Rattle.store.specs.Calls.{format_area, begin_area, step_area}
 use Rattle.script.specs.declared.Command.{Command}
-use Rattle.script.specs.declared.Command.TheVariants.{Bad, Format, Begin, Step}
+use Rattle.script.specs.declared.Command.TheVariants.{Format, Begin, Step}
 use Rattle.script.specs.Syntax.{command, Lines, end, torn, line, lines}
 use Rattle.script.specs.Printing.{printed, most_printed}
 
@@ -39,11 +39,11 @@ pub data Heard : Type 0 where
   stopped : Heard
   replied : Reply (List ℕ) → Heard
 
-abbrev pub heard : List ℕ → Command → Heard
-heard a Bad = stopped
-heard a (Format t n p d) = replied (format_new a t n p d)
-heard a (Begin t op n c) = replied (begin_area a t op n c)
-heard a (Step t) = replied (step_area a t)
+abbrev pub heard : List ℕ → Option Command → Heard
+heard a None = stopped
+heard a (Some (Format t n p d)) = replied (format_new a t n p d)
+heard a (Some (Begin t op n c)) = replied (begin_area a t op n c)
+heard a (Some (Step t)) = replied (step_area a t)
 
 -- ---- all lines
 

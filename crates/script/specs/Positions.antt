@@ -1,24 +1,17 @@
--- What the code's answers mean, for the contracts inside the crate: the code goes by positions in a list where the definitions hand on the
--- rest of it, and keeps the store at the front of a buffer.
+-- What the code's answers mean, for the contracts inside the crate: between lines the code goes by positions in the input where the
+-- definitions hand on the rest of it, and it keeps the store at the front of a buffer.
 use Rattle.std.specs.Prelude.{List, ℕ, ◌+◌, ◌-◌, ◌/◌, ◌%◌, ◌≤◌, ◌<◌, length, take, drop}
 use Rattle.meaning.specs.Limits.{most_word}
 use Rattle.meaning.specs.Call.{Reply}
 use Rattle.store.specs.Layout.{largest}
-use Rattle.script.specs.declared.Field.{Field}
-use Rattle.script.specs.declared.Field.TheVariants as fields
 use Rattle.script.specs.declared.Line.{Line}
 use Rattle.script.specs.declared.Line.TheVariants as cuts
 use Rattle.script.specs.declared.Turn.{Turn}
 use Rattle.script.specs.declared.Turn.TheVariants as turns
-use Rattle.script.specs.Syntax.{Read, missing, got, Lines, end, torn, line, lines}
+use Rattle.script.specs.Syntax.{Lines, end, torn, line, lines}
 use Rattle.script.specs.Output.{most_input, most_output, Heard, stopped, replied}
 
 -- ---- positions
-
--- a number that was found in a list, with the position after it
-abbrev pub seen : List ℕ → Field → Read
-seen s fields.Missing = missing
-seen s (fields.Read v at) = got v (drop at s)
 
 -- a line that was found from a position of an input on, with the position of its newline
 abbrev pub cut_at : List ℕ → ℕ → Line → Lines

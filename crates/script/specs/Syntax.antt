@@ -1,11 +1,9 @@
 -- 01, "The script program": how an input is cut into lines, and how a line is read into a command. A line is a list of bytes without
 -- its newline. Each function reads from the front of a list and hands on what it has not read.
-use Rattle.std.specs.Prelude.{Bool, true, false, cond, List, [], ◌∷◌, ℕ, ◌+◌, ◌-◌, ◌*◌, eqb, leb}
+use Rattle.std.specs.Prelude.{Bool, true, false, cond, List, [], ◌∷◌, ℕ, ◌+◌, ◌-◌, ◌*◌, eqb, leb, Option, None, Some}
 use Rattle.meaning.specs.Limits.{most_word, within}
-use Rattle.script.specs.declared.Four.{Four}
-use Rattle.script.specs.declared.Four.TheVariants.{Fewer, All}
 use Rattle.script.specs.declared.Command.{Command}
-use Rattle.script.specs.declared.Command.TheVariants.{Bad, Format, Begin, Step}
+use Rattle.script.specs.declared.Command.TheVariants.{Format, Begin, Step}
 
 -- ---- the bytes that count
 
@@ -72,36 +70,40 @@ abbrev pub ending : {A : Type 0} → List ℕ → A → A → A
 ending [] other one = one
 ending (c ∷ cs) other one = other
 
+-- four numbers
+abbrev pub Four : Type 0
+Four = ℕ × ℕ × ℕ × ℕ
+
 -- four fields and nothing after them
-abbrev pub four : List ℕ → Four
+abbrev pub four : List ℕ → Option Four
 four cs₀ =
-    on_field (field cs₀) Fewer (λ w cs₁.
-    on_field (field cs₁) Fewer (λ x cs₂.
-    on_field (field cs₂) Fewer (λ y cs₃.
-    on_field (field cs₃) Fewer (λ z cs₄.
-    ending cs₄ Fewer (All w x y z)))))
+    on_field (field cs₀) None (λ w cs₁.
+    on_field (field cs₁) None (λ x cs₂.
+    on_field (field cs₂) None (λ y cs₃.
+    on_field (field cs₃) None (λ z cs₄.
+    ending cs₄ None (Some (w, x, y, z))))))
 
-abbrev pub as_format : Four → Command
-as_format Fewer = Bad
-as_format (All t n p d) = Format t n p d
+abbrev pub as_format : Option Four → Option Command
+as_format None = None
+as_format (Some (t, n, p, d)) = Some (Format t n p d)
 
-abbrev pub as_begin : Four → Command
-as_begin Fewer = Bad
-as_begin (All t op n c) = Begin t op n c
+abbrev pub as_begin : Option Four → Option Command
+as_begin None = None
+as_begin (Some (t, op, n, c)) = Some (Begin t op n c)
 
 -- one field and nothing after it
-abbrev pub as_step : Read → Command
-as_step field = on_field field Bad (λ t cs. ending cs Bad (Step t))
+abbrev pub as_step : Read → Option Command
+as_step field = on_field field None (λ t cs. ending cs None (Some (Step t)))
 
 -- `f` with four numbers, `b` with four, `s` with one: a line's first byte and the others
-abbrev pub lettered : ℕ → List ℕ → Command
+abbrev pub lettered : ℕ → List ℕ → Option Command
 lettered c cs =
     cond (eqb c LETTER_F) (as_format (four cs))
     (cond (eqb c LETTER_B) (as_begin (four cs))
-    (cond (eqb c LETTER_S) (as_step (field cs)) Bad))
+    (cond (eqb c LETTER_S) (as_step (field cs)) None))
 
-abbrev pub command : List ℕ → Command
-command [] = Bad
+abbrev pub command : List ℕ → Option Command
+command [] = None
 command (c ∷ cs) = lettered c cs
 
 -- ---- the lines of an input

@@ -3,28 +3,17 @@
 // whole input; what it prints is `output` of specs/Output.antt.
 #![tactic(auto)]
 
-ghost use Rattle.std.specs.Prelude.{◌≡◌, cond, [], ◌∷◌, ◌+◌, ◌≤◌, ◌<◌, leb, length, take, drop};
+ghost use Rattle.std.specs.Prelude.{◌≡◌, cond, [], ◌∷◌, ◌+◌, ◌≤◌, ◌<◌, leb, length, take, drop, MatchOption};
 ghost use Rattle.store.specs.Layout.{size, largest};
 ghost use Rattle.store.specs.Calls.{begin_area, step_area};
-ghost use Rattle.script.specs.Syntax.{digits, bounded, number, field, four, as_format, as_begin, as_step, command, lines};
+ghost use Rattle.script.specs.Syntax.{missing, got, digits, bounded, number, field, four, as_step, command, lines};
 ghost use Rattle.script.specs.Printing.{figures, most_printed, printed, Wrote};
 ghost use Rattle.script.specs.Output.{replied, format_new, heard, answers, output, fitting};
-ghost use Rattle.script.specs.Positions.{seen, cut_at, Inside, Held, turned, Left, Roomy};
+ghost use Rattle.script.specs.Positions.{cut_at, Inside, Held, turned, Left, Roomy};
 
 use store::Store;
 
 // ---- the language
-
-const NEWLINE: u8 = 10;
-
-const BLANK: u8 = 32;
-
-const ZERO: u8 = 48;
-
-const NINE: u8 = 57;
-
-// The largest number that a field may have.
-const MOST: u64 = 4294967295;
 
 // A word has at most ten digits.
 const FIGURES: u32 = 10;
@@ -47,30 +36,16 @@ pub const ROOM: usize = 6 * MOST_INPUT + MOST_PRINTED;
 // A call's result is its number times this, and its value added.
 const PACK: u64 = 4294967296;
 
-// What stands at a place of a line: no number, or a number, and the place after it.
-#[derive(Clone, Copy)]
-enum Field {
-    Missing,
-    Read(u32, usize),
-}
-
-// The rest of a line: four fields, or anything else.
-#[derive(Clone, Copy)]
-enum Four {
-    Fewer,
-    All(u32, u32, u32, u32),
-}
-
-// A line: `f T N P D`, `b t op n c`, `s t`, or of another form.
+// A line: `f T N P D`, `b t op n c` or `s t`.
 #[derive(Clone, Copy)]
 enum Command {
-    Bad,
     Format(u32, u32, u32, u32),
     Begin(u32, u32, u32, u32),
     Step(u32),
 }
 
-// What stands at a place of an input: nothing; bytes with no newline after them; or a line, and the place of its newline.
+// What stands at a place of an input: nothing; bytes with no newline after them; or a line, and the place of its newline. These are the three
+// cases of `Lines`; an Option of a Result would name them no plainer.
 #[derive(Clone, Copy)]
 enum Line {
     End,
@@ -87,143 +62,71 @@ enum Turn {
 
 // ---- reading
 
-fn wide(b: u8) -> u64
-    ensures { result ≡ b }
+// Each function reads from the front of a line and hands on what it has not read.
+
+// The digits at the front, after those whose value is `first`.
+fn read_digits(first: u32, line: &[u8]) -> Option<(u32, &[u8])>
+    ensures { MatchOption result (bounded (digits first line.now) ≡ missing) (λ p. bounded (digits first line.now) ≡ got p.0 p.1.now) }
 {
-    b as u64
+    let mut value = first;
+    let mut rest = line;
+    while let [digit @ b'0'..=b'9', others @ ..] = rest {
+        value = value.checked_mul(10)?.checked_add((digit - b'0') as u32)?;
+        rest = others;
+    }
+    Some((value, rest))
 }
 
-// The digits from a place on, after those whose value is `first`.
-fn read_digits(line: &[u8], from: usize, first: u32) -> Field
-    ensures { seen line.now result ≡ bounded (digits first (drop from line.now)) }
+// A number. One that starts with 0 is 0 and ends there.
+fn read_number(line: &[u8]) -> Option<(u32, &[u8])>
+    ensures { MatchOption result (number line.now ≡ missing) (λ p. number line.now ≡ got p.0 p.1.now) }
 {
-    let mut value = first as u64;
-    let mut at = from;
-    while at < line.len() {
-        let b = line[at];
-        if b < ZERO {
-            return Field::Read(value as u32, at);
-        }
-        if NINE < b {
-            return Field::Read(value as u32, at);
-        }
-        value = 10 * value + wide(b - ZERO);
-        if MOST < value {
-            return Field::Missing;
-        }
-        at += 1;
-    }
-    Field::Read(value as u32, at)
-}
-
-// The number at a place. One that starts with 0 is 0 and ends there.
-fn read_number(line: &[u8], at: usize) -> Field
-    ensures { seen line.now result ≡ number (drop at line.now) }
-{
-    if line.len() <= at {
-        return Field::Missing;
-    }
-    let b = line[at];
-    let next = at + 1;
-    if b == ZERO {
-        return Field::Read(0, next);
-    }
-    if b < ZERO {
-        return Field::Missing;
-    }
-    if NINE < b {
-        return Field::Missing;
-    }
-    read_digits(line, next, (b - ZERO) as u32)
-}
-
-// The blank at a place, and the number after it.
-fn read_field(line: &[u8], at: usize) -> Field
-    ensures { seen line.now result ≡ field (drop at line.now) }
-{
-    if line.len() <= at {
-        return Field::Missing;
-    }
-    let b = line[at];
-    if b == BLANK {
-        return read_number(line, at + 1);
-    }
-    Field::Missing
-}
-
-// Four fields from a place on, and nothing after them.
-fn read_four(line: &[u8], at: usize) -> Four
-    ensures { result ≡ four (drop at line.now) }
-{
-    let Field::Read(w, at1) = read_field(line, at) else {
-        return Four::Fewer;
-    };
-    let Field::Read(x, at2) = read_field(line, at1) else {
-        return Four::Fewer;
-    };
-    let Field::Read(y, at3) = read_field(line, at2) else {
-        return Four::Fewer;
-    };
-    let Field::Read(z, at4) = read_field(line, at3) else {
-        return Four::Fewer;
-    };
-    if at4 < line.len() {
-        Four::Fewer
-    } else {
-        Four::All(w, x, y, z)
+    match line {
+        [b'0', rest @ ..] => Some((0, rest)),
+        [digit @ b'0'..=b'9', rest @ ..] => read_digits((digit - b'0') as u32, rest),
+        _ => None,
     }
 }
 
-fn as_format(four: Four) -> Command
-    ensures { result ≡ as_format four }
+// A blank, and the number after it.
+fn read_field(line: &[u8]) -> Option<(u32, &[u8])>
+    ensures { MatchOption result (field line.now ≡ missing) (λ p. field line.now ≡ got p.0 p.1.now) }
 {
-    match four {
-        Four::Fewer => Command::Bad,
-        Four::All(t, n, p, d) => Command::Format(t, n, p, d),
+    match line {
+        [b' ', rest @ ..] => read_number(rest),
+        _ => None,
     }
 }
 
-fn as_begin(four: Four) -> Command
-    ensures { result ≡ as_begin four }
+// Four fields, and nothing after them.
+fn read_four(line: &[u8]) -> Option<(u32, u32, u32, u32)>
+    ensures { result ≡ four line.now }
 {
-    match four {
-        Four::Fewer => Command::Bad,
-        Four::All(t, op, n, c) => Command::Begin(t, op, n, c),
-    }
+    let (w, line) = read_field(line)?;
+    let (x, line) = read_field(line)?;
+    let (y, line) = read_field(line)?;
+    let (z, line) = read_field(line)?;
+    line.is_empty().then_some((w, x, y, z))
 }
 
-// One field from a place on, and nothing after it.
-fn read_step(line: &[u8], at: usize) -> Command
-    ensures { result ≡ as_step (field (drop at line.now)) }
+// One field, and nothing after it.
+fn read_step(line: &[u8]) -> Option<Command>
+    ensures { result ≡ as_step (field line.now) }
 {
-    let Field::Read(t, end) = read_field(line, at) else {
-        return Command::Bad;
-    };
-    if end < line.len() {
-        Command::Bad
-    } else {
-        Command::Step(t)
-    }
+    let (t, line) = read_field(line)?;
+    line.is_empty().then_some(Command::Step(t))
 }
 
 // A line, without its newline.
-fn read_command(line: &[u8]) -> Command
+fn read_command(line: &[u8]) -> Option<Command>
     ensures { result ≡ command line.now }
 {
-    if line.len() == 0 {
-        return Command::Bad;
+    match line {
+        [b'f', rest @ ..] => read_four(rest).map(|(t, n, p, d)| Command::Format(t, n, p, d)),
+        [b'b', rest @ ..] => read_four(rest).map(|(t, op, n, c)| Command::Begin(t, op, n, c)),
+        [b's', rest @ ..] => read_step(rest),
+        _ => None,
     }
-    let letter = line[0];
-    if letter == b'f' {
-        return as_format(read_four(line, 1));
-    }
-    if letter == b'b' {
-        return as_begin(read_four(line, 1));
-    }
-    if letter == b's' {
-        return read_step(line, 1);
-    }
-    Command::Bad
 }
 
 // The line at a place of the input.
@@ -231,14 +134,11 @@ fn next_line(input: &[u8], at: usize) -> Line
     ensures result_value { cut_at input.now at result ≡ lines (drop at input.now) }
     ensures inside { Inside at (length input.now) result }
 {
-    let mut e = at;
-    while e < input.len() {
-        if input[e] == NEWLINE {
-            return Line::Ending(e);
-        }
-        e += 1;
+    match (at..input.len()).find(|e| input[*e] == b'\n') {
+        Some(e) => Line::Ending(e),
+        None if at < input.len() => Line::Torn,
+        None => Line::End,
     }
-    if at < e { Line::Torn } else { Line::End }
 }
 
 // ---- printing
@@ -260,7 +160,7 @@ pub fn put_figures(out: &mut [u8], at: usize, most: u32, value: u64) -> usize
     if most == 0 {
         return at;
     }
-    let last = ZERO + (value % 10) as u8;
+    let last = b'0' + (value % 10) as u8;
     if value < 10 {
         return put_byte(out, at, last);
     }
@@ -274,9 +174,9 @@ fn put_reply(out: &mut [u8], at: usize, number: u32, value: u32) -> usize
     ensures { Wrote out.old at (printed number value) result out.new }
 {
     let at1 = put_figures(out, at, FIGURES, number as u64);
-    let at2 = put_byte(out, at1, BLANK);
+    let at2 = put_byte(out, at1, b' ');
     let at3 = put_figures(out, at2, FIGURES, value as u64);
-    put_byte(out, at3, NEWLINE)
+    put_byte(out, at3, b'\n')
 }
 
 // ---- the calls
@@ -326,13 +226,15 @@ fn obey_step(area: &mut [u8], used: usize, t: u32) -> Turn
     Turn::Reply(both, used)
 }
 
-fn obey(area: &mut [u8], used: usize, command: Command) -> Turn
+fn obey(area: &mut [u8], used: usize, command: Option<Command>) -> Turn
     requires { Held area.old used }
     ensures result_after { turned area.new result ≡ heard (take used area.old) command }
     ensures left { Left (length area.old) result }
 {
+    let Some(command) = command else {
+        return Turn::Stop;
+    };
     match command {
-        Command::Bad => Turn::Stop,
         Command::Format(t, n, p, d) => obey_format(area, used, t, n, p, d),
         Command::Begin(t, op, n, c) => obey_begin(area, used, t, op, n, c),
         Command::Step(t) => obey_step(area, used, t),

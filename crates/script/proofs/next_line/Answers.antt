@@ -1,27 +1,19 @@
--- A byte that is a newline ends the line; any other is one byte more before it.
-use Rattle.std.proofs.Common.{◌∙◌, sym, arith, ◌-◌, ◌<◌, length, take, drop, length-take, length-drop, drop_of_length-le}
-use Rattle.script.proofs.Cutting.{prefixed-torn, lines_at_newline, lines-past}
+-- By what the search for the first newline found.
+use Rattle.std.proofs.Common.{rules, tests, ◌≡◌, ◌≢◌, get_or}
+use Rattle.std.proofs.lemmas.Iterator.{first_from_Range}
+use Rattle.script.specs.Syntax.{NEWLINE}
+use Rattle.script.proofs.Cutting.{line-at, torn-at}
 use Rattle.script.proofs.next_line.Goals as goal
 
-pub returns-then-input-e-eq-NEWLINE-clause-result_value : goal.returns-then-input-e-eq-NEWLINE-clause-result_value
-returns-then-input-e-eq-NEWLINE-clause-result_value c =
-    let l = c.loop-e in
-    sym
-    (l.invariant.2
-    ∙ lines_at_newline c.args.input.now c.args.at l.e l.invariant.0 c.loop-e-test.true c.if-input-e-eq-NEWLINE.true)
+pub returns-in-Some-clause-result_value : goal.returns-in-Some-clause-result_value
+returns-in-Some-clause-result_value c =
+    let s = c.args.input.now in
+    let found = first_from_Range _ _ _ c.find.result (λ e. get_or s e 0 ≡ NEWLINE) (λ e. get_or s e 0 ≢ NEWLINE) c.find.ensures.ran (λ x q k. search (rules, tests)) (λ x q k. search (rules, tests)) in
+    let f = rw c.in-Some.is at found in
+    line-at s c.args.at c.in-Some.e f.0 f.1 f.3 f.2
 
-pub loop-e-preserved : goal.loop-e-preserved
-loop-e-preserved c =
-    let l = c.loop-e in (
-      omega arith,
-      omega arith,
-      l.invariant.2 ∙ lines-past c.args.input.now c.args.at l.e l.invariant.0 c.loop-e-test.true c.if-input-e-eq-NEWLINE.false,
-    )
-
-pub returns-then-at-e-clause-result_value : goal.returns-then-at-e-clause-result_value
-returns-then-at-e-clause-result_value c =
-    let l = c.loop-e in
-    let input = c.args.input.now in
-    let passed = take (l.e - c.args.at) (drop c.args.at input) in
-    let some : 0 < length passed = rw (length-take, length-drop) (omega arith) in
-    sym (l.invariant.2 ∙ rw (drop_of_length-le input c.loop-e-test.false) (prefixed-torn passed some))
+pub returns-in-None-clause-result_value : goal.returns-in-None-clause-result_value
+returns-in-None-clause-result_value c =
+    let s = c.args.input.now in
+    let found = first_from_Range _ _ _ c.find.result (λ e. get_or s e 0 ≡ NEWLINE) (λ e. get_or s e 0 ≢ NEWLINE) c.find.ensures.ran (λ x q k. search (rules, tests)) (λ x q k. search (rules, tests)) in
+    torn-at s c.args.at c.if-at-input.true (rw c.in-None.is at found)

@@ -3,21 +3,18 @@
 // specs/Holding.antt, specs/Step.antt).
 #![tactic(auto)]
 
-ghost use Rattle.std.specs.Prelude.{◌≡◌, cond, ◌+◌, ◌<◌, ◌≤◌};
+ghost use Rattle.std.specs.Prelude.{◌≡◌, ◌<◌, ◌≤◌};
 ghost use Rattle.meaning.specs.Limits.{most_threads, most_word};
 ghost use Rattle.meaning.specs.Holding.{mark as mark_of, member as member_of, held as held_of, admits as admits_of, named as named_of};
 ghost use Rattle.meaning.specs.Programs.{act_at, last_line};
-ghost use Rattle.meaning.specs.Step.{goto as goto_of, onward as onward_of, set_n, set_c, set_p, set_q, set_h, block as block_of, effect as effect_of, nothing as nothing_of, on_lock, on_owner, on_map, on_locks, on_header, on_content, on_wear, on_freed, on_own, need as need_of, take as take_of, next as next_of, branch as branch_of, worn as worn_of, moved as moved_of, answer as answer_of};
+ghost use Rattle.meaning.specs.Step.{goto as goto_of, onward as onward_of, set_n, set_c, set_p, set_q, set_h, block as block_of, nothing as nothing_of, on_lock, on_owner, on_map, on_locks, on_header, on_content, on_wear, on_freed, on_own, need as need_of, take as take_of, next as next_of, branch as branch_of, worn as worn_of, moved as moved_of, answer as answer_of};
 
 use meaning::Pass::Leave;
 use meaning::{Act, Answer, Effect, Kind, Pass, Reg, SETS, Thread, Verdict};
 
-// The largest word, at which wear stays.
-const MOST_WORD: u32 = 4294967295;
-
 // ---- document 01, "The lines"
 
-const WRITING: [Act; 16] = [
+static WRITING: [Act; 16] = [
     Act::TakeH, // W1
     Act::TakeN(Kind::Writer), // W2
     Act::GoIfMapped(12), // W3
@@ -36,7 +33,7 @@ const WRITING: [Act; 16] = [
     Act::FinishN(Kind::Writer, Answer::Zero), // W16
 ];
 
-const READING: [Act; 6] = [
+static READING: [Act; 6] = [
     Act::TakeN(Kind::Reader), // R1
     Act::EmptyIfUnmapped(6), // R2
     Act::Own(Kind::Reader, Reg::P), // R3
@@ -45,7 +42,7 @@ const READING: [Act; 6] = [
     Act::FinishN(Kind::Reader, Answer::C), // R6
 ];
 
-const UNMAPPING: [Act; 11] = [
+static UNMAPPING: [Act; 11] = [
     Act::TakeH, // U1
     Act::TakeN(Kind::Writer), // U2
     Act::GoIfUnmapped(10), // U3
@@ -59,7 +56,7 @@ const UNMAPPING: [Act; 11] = [
     Act::FinishH(Answer::Zero), // U11
 ];
 
-const LEVELLING: [Act; 18] = [
+static LEVELLING: [Act; 18] = [
     Act::TakeH, // L1
     Act::OwnHeaders, // L2
     Act::Choose, // L3
@@ -100,9 +97,7 @@ pub fn act_at(op: u32, line: u32) -> Act
 pub fn goto(l: u32, r: Thread) -> Thread
     ensures { result ≡ goto_of l r }
 {
-    let mut x = r;
-    x.line = l;
-    x
+    Thread { line: l, ..r }
 }
 
 pub fn onward(r: Thread) -> Thread
@@ -115,41 +110,31 @@ pub fn onward(r: Thread) -> Thread
 pub fn set_n(v: u32, r: Thread) -> Thread
     ensures { result ≡ set_n v r }
 {
-    let mut x = r;
-    x.n = v;
-    x
+    Thread { n: v, ..r }
 }
 
 pub fn set_c(v: u32, r: Thread) -> Thread
     ensures { result ≡ set_c v r }
 {
-    let mut x = r;
-    x.c = v;
-    x
+    Thread { c: v, ..r }
 }
 
 pub fn set_p(v: u32, r: Thread) -> Thread
     ensures { result ≡ set_p v r }
 {
-    let mut x = r;
-    x.p = v;
-    x
+    Thread { p: v, ..r }
 }
 
 pub fn set_q(v: u32, r: Thread) -> Thread
     ensures { result ≡ set_q v r }
 {
-    let mut x = r;
-    x.q = v;
-    x
+    Thread { q: v, ..r }
 }
 
 pub fn set_h(v: u32, r: Thread) -> Thread
     ensures { result ≡ set_h v r }
 {
-    let mut x = r;
-    x.h = v;
-    x
+    Thread { h: v, ..r }
 }
 
 pub fn block(b: Reg, r: Thread) -> u32
@@ -206,117 +191,115 @@ pub fn admits(k: Kind, t: u32, w: u32) -> bool
 
 // ---- effects
 
-fn effect(
-    lock: Option<u32>,
-    owner: Option<u32>,
-    map: Option<(u32, u32)>,
-    locks: Pass,
-    header: Option<(u32, u32)>,
-    content: Option<(u32, u32)>,
-    wear: Option<(u32, u32)>,
-    own: Pass,
-) -> Effect
-    ensures { result ≡ effect_of lock owner map locks header content wear own }
-{
-    Effect {
-        lock,
-        owner,
-        map,
-        locks,
-        header,
-        content,
-        wear,
-        own,
-    }
-}
-
 pub fn nothing() -> Effect
     ensures { result ≡ nothing_of }
 {
-    effect(None, None, None, Leave, None, None, None, Leave)
+    Effect {
+        lock: None,
+        owner: None,
+        map: None,
+        locks: Leave,
+        header: None,
+        content: None,
+        wear: None,
+        own: Leave,
+    }
 }
 
 pub fn on_lock(w: u32) -> Effect
     ensures { result ≡ on_lock w }
 {
-    effect(Some(w), None, None, Leave, None, None, None, Leave)
+    Effect {
+        lock: Some(w),
+        ..nothing()
+    }
 }
 
 pub fn on_owner(w: u32) -> Effect
     ensures { result ≡ on_owner w }
 {
-    effect(None, Some(w), None, Leave, None, None, None, Leave)
+    Effect {
+        owner: Some(w),
+        ..nothing()
+    }
 }
 
 pub fn on_map(n: u32, w: u32) -> Effect
     ensures { result ≡ on_map n w }
 {
-    effect(None, None, Some((n, w)), Leave, None, None, None, Leave)
+    Effect {
+        map: Some((n, w)),
+        ..nothing()
+    }
 }
 
 pub fn on_locks(c: Pass) -> Effect
     ensures { result ≡ on_locks c }
 {
-    effect(None, None, None, c, None, None, None, Leave)
+    Effect {
+        locks: c,
+        ..nothing()
+    }
 }
 
 pub fn on_header(m: u32, w: u32) -> Effect
     ensures { result ≡ on_header m w }
 {
-    effect(None, None, None, Leave, Some((m, w)), None, None, Leave)
+    Effect {
+        header: Some((m, w)),
+        ..nothing()
+    }
 }
 
 pub fn on_content(m: u32, w: u32) -> Effect
     ensures { result ≡ on_content m w }
 {
-    effect(None, None, None, Leave, None, Some((m, w)), None, Leave)
+    Effect {
+        content: Some((m, w)),
+        ..nothing()
+    }
 }
 
 pub fn on_wear(m: u32, w: u32) -> Effect
     ensures { result ≡ on_wear m w }
 {
-    effect(None, None, None, Leave, None, None, Some((m, w)), Leave)
+    Effect {
+        wear: Some((m, w)),
+        ..nothing()
+    }
 }
 
 pub fn on_freed(m: u32, w: u32) -> Effect
     ensures { result ≡ on_freed m w }
 {
-    effect(
-        None,
-        None,
-        None,
-        Leave,
-        Some((m, 0)),
-        None,
-        Some((m, w)),
-        Leave,
-    )
+    Effect {
+        header: Some((m, 0)),
+        wear: Some((m, w)),
+        ..nothing()
+    }
 }
 
 pub fn on_own(c: Pass) -> Effect
     ensures { result ≡ on_own c }
 {
-    effect(None, None, None, Leave, None, None, None, c)
+    Effect {
+        own: c,
+        ..nothing()
+    }
 }
 
 // ---- verdicts
 
-fn either(first: bool, v: Verdict, w: Verdict) -> Verdict
-    ensures { result ≡ cond first v w }
-{
-    if first { v } else { w }
-}
-
 pub fn need(met: bool, v: Verdict) -> Verdict
     ensures { result ≡ need_of met v }
 {
-    either(met, v, Verdict::Fault)
+    if met { v } else { Verdict::Fault }
 }
 
 pub fn take(lets: bool, v: Verdict) -> Verdict
     ensures { result ≡ take_of lets v }
 {
-    either(lets, v, Verdict::Blocked)
+    if lets { v } else { Verdict::Blocked }
 }
 
 pub fn next(r: Thread, e: Effect) -> Verdict
@@ -329,27 +312,27 @@ pub fn next(r: Thread, e: Effect) -> Verdict
 pub fn branch(w: u32, yes: Thread, no: Thread) -> Verdict
     ensures { result ≡ branch_of w yes no }
 {
-    let e = nothing();
-    either(w == 0, Verdict::Go(yes, e), Verdict::Go(no, e))
+    let r = if w == 0 { yes } else { no };
+    Verdict::Go(r, nothing())
 }
 
 pub fn worn(w: u32) -> u32
     ensures { result ≡ worn_of w }
 {
-    if w < MOST_WORD { w + 1 } else { w }
+    w.saturating_add(1)
 }
 
 fn moved(h: u32) -> u32
     ensures { result ≡ moved_of h }
 {
-    if h == 0 { 0 } else { 1 }
+    u32::from(h != 0)
 }
 
 // The number or block that a word names.
 pub fn named(w: u32) -> u32
     ensures { result ≡ named_of w }
 {
-    if w == 0 { 0 } else { w - 1 }
+    w.saturating_sub(1)
 }
 
 pub fn answer(a: Answer, r: Thread) -> u32

@@ -7,17 +7,14 @@ ghost use Rattle.std.specs.Prelude.{◌≤◌, length};
 
 use std::io::{Read, Write};
 
-// Reads until the buffer is full, the input ends or a read fails, and says how many bytes came.
+// Reads until the buffer is full, the input ends or a read fails, and says how many bytes came. std has no such method: `read_exact` gives no
+// count where the input ends, and `read_to_end` takes a heap.
 fn read_full(input: &mut impl Read, buffer: &mut [u8]) -> usize
     ensures { result ≤ length buffer.new }
 {
-    let mut count: usize = 0;
-    while count < buffer.len() {
-        match input.read(&mut buffer[count..]) {
-            Ok(0) => break,
-            Ok(more) => count += more,
-            Err(_) => break,
-        }
+    let mut count = 0;
+    while let Ok(more @ 1..) = input.read(&mut buffer[count..]) {
+        count += more;
     }
     count
 }

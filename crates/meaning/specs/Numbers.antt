@@ -1,4 +1,4 @@
--- 01, "Numbers given back": the table, each number named once. The code's constants for these are those of `crates/calls/src/lib.rt`.
+-- 01, "Numbers given back": the table, each number named once. The code's numbers for these are those of the enums of `crates/calls/src/lib.rt`.
 use Rattle.std.specs.Prelude.{ℕ, ◌+◌, ◌*◌}
 
 abbrev pub WENT : ℕ

@@ -9,11 +9,12 @@ use Rattle.meaning.specs.declared.Pass.{Pass}
 use Rattle.meaning.specs.declared.Effect.{Effect}
 use Rattle.meaning.specs.Store.{Store}
 use Rattle.meaning.specs.Step.{apply, nothing}
+use Rattle.store.specs.declared.Column.{Column}
 use Rattle.store.specs.Layout.{p_at, lock_at, owner_at, threads_at, thread_words}
 use Rattle.store.specs.Area.{Bytes, decode}
-use Rattle.store.specs.Live.{Live, Within, BecomeFits, EntryFits, EntryBelow, PassBelow, EntryWithin, Small, with_effect, put_word, put_become, put_entry, passed, put_thread}
+use Rattle.store.specs.Live.{Live, Within, BecomeFits, EntryFits, EntryBelow, PassBelow, Small, with_effect, put_word, put_become, put_entry, passed, put_thread}
 use Rattle.store.proofs.Bytes.{bytes-put}
-use Rattle.store.proofs.Tables.{lock_only, owner_only, live-become, live-entry, within-entry, passed-below, decode-lock, decode-owner, live-thread, decode-thread}
+use Rattle.store.proofs.Tables.{lock_only, owner_only, live-become, live-entry, passed-below, decode-lock, decode-owner, live-thread, decode-thread}
 use Rattle.machine.specs.Settling.{Stored}
 
 -- at the start
@@ -72,30 +73,28 @@ module _ {a b : List ℕ} {t n p : ℕ} {s : Store} (r : Stored a b t n p s) whe
         bytes = λ h. bytes-become b owner_at w (r.bytes h);
       })
 
-  -- a table at `from`, with what the law of that table says
+  -- a table, a column of the area's words, with what the law of that table says
   pub stored-entry :
-      {c : List ℕ} (from stride count place : ℕ) (e : Option (ℕ × ℕ)) (x : Effect) → place ≡ from → c ≡ put_entry b place stride e → EntryFits e →
-      EntryBelow count e → ((k : ℕ) → k < count → Within b (from + stride * k) × (p_at < from + stride * k)) →
-      decode (put_entry b from stride e) ≡ with_effect (decode b) x → Stored a c t n p (with_effect s x)
-  stored-entry from stride count place e x q i f h inside law =
-      rw (i, q)
+      {c : List ℕ} (at : Column) (e : Option (ℕ × ℕ)) (x : Effect) → (c ≡ put_entry b at.from at.stride e) × EntryFits e →
+      EntryBelow at.count e → ((k : ℕ) → k < at.count → Within b (at.from + at.stride * k) × (p_at < at.from + at.stride * k)) →
+      (EntryFits e → decode (put_entry b at.from at.stride e) ≡ with_effect (decode b) x) → Stored a c t n p (with_effect s x)
+  stored-entry at e x i h inside law =
+      rw i.0
       (record {
-        decoded = law ∙ ap (λ y. with_effect y x) r.decoded;
-        live = live-entry r.live from stride count e h inside f;
-        bytes = λ y. bytes-entry b from stride e (r.bytes y);
+        decoded = law i.1 ∙ ap (λ y. with_effect y x) r.decoded;
+        live = live-entry r.live at.from at.stride at.count e h inside i.1;
+        bytes = λ y. bytes-entry b at.from at.stride e (r.bytes y);
       })
 
   -- the same of a pass of table f
   pub stored_pass :
-      {c : List ℕ} (from stride count place : ℕ) (f : ℕ → ℕ) (e : Pass) (x : Effect) → place ≡ from →
-      (c ≡ put_entry b place stride (passed b place stride e)) × EntryFits (passed b place stride e) → PassBelow count f e →
-      ((k : ℕ) → k < count → Within b (from + stride * k) × (p_at < from + stride * k)) →
-      (EntryFits (passed b from stride e) → decode (put_entry b from stride (passed b from stride e)) ≡ with_effect (decode b) x) →
+      {c : List ℕ} (at : Column) (f : ℕ → ℕ) (e : Pass) (x : Effect) →
+      (c ≡ put_entry b at.from at.stride (passed b at.from at.stride e)) × EntryFits (passed b at.from at.stride e) → PassBelow at.count f e →
+      ((k : ℕ) → k < at.count → Within b (at.from + at.stride * k) × (p_at < at.from + at.stride * k)) →
+      (EntryFits (passed b at.from at.stride e) → decode (put_entry b at.from at.stride (passed b at.from at.stride e)) ≡ with_effect (decode b) x) →
       Stored a c t n p (with_effect s x)
-  stored_pass from stride count place f e x q i h inside law =
-      let j = rw q at i in
-      stored-entry from stride count from (passed b from stride e) x refl j.0 j.1 (passed-below b from stride count f e h) inside
-      (law j.1)
+  stored_pass at f e x i h inside law =
+      stored-entry at (passed b at.from at.stride e) x i (passed-below b at.from at.stride at.count f e h) inside law
 
   -- what becomes of a lock or an owner is a word of the area as of the store
   pub locks-fit : (count : ℕ) (e : Pass) → PassBelow count s.locks e → PassBelow count (decode b).locks e
@@ -114,12 +113,6 @@ module _ {a b : List ℕ} {t n p : ℕ} {s : Store} (r : Stored a b t n p s) whe
         live = live-thread r.live k x f h;
         bytes = λ y. bytes-thread b (threads_at + thread_words * k) x (r.bytes y);
       })
-
--- what a setter of a table asks
-pub entry-within :
-    {b : List ℕ} {t n p : ℕ} (live : Live b t n p) (from stride count place : ℕ) (e : Option (ℕ × ℕ)) → place ≡ from → EntryBelow count e →
-    ((k : ℕ) → k < count → Within b (from + stride * k) × (p_at < from + stride * k)) → EntryWithin b place stride e
-entry-within live from stride count place e q h inside = rw q (within-entry live from stride count e h inside)
 
 -- an effect after what came before
 pub stored-with_effect :

@@ -26,6 +26,7 @@ use meaning::Pass::{Minus, Plus};
 use meaning::Reg::{P, Q};
 use meaning::Verdict::{Done, Fault, Go};
 use meaning::{Act, Effect, Pass, Reg, Thread, Verdict};
+pub use store::Sizes;
 use store::Store;
 
 // What a line may look at, the searches' tables left out: how many blocks there are, the levelling distance, and the words of H, of
@@ -328,14 +329,6 @@ fn words_near<'a>(
     }
 }
 
-// The sizes T, N and P of an area.
-#[derive(Clone, Copy)]
-pub struct Sizes {
-    pub t: usize,
-    pub n: usize,
-    pub p: usize,
-}
-
 // What thread t's next line would do to the store that the area holds.
 pub fn judge(area: &[u8], z: Sizes, t: u32, r: Thread) -> Verdict
     requires { Live area.now z.t z.n z.p × Steady t r × AtLine r }
@@ -343,10 +336,6 @@ pub fn judge(area: &[u8], z: Sizes, t: u32, r: Thread) -> Verdict
 {
     // The act is looked up first, which measured some 5 ns faster than after the fill: its table is made on the stack.
     let act = acts::act_at(r.op, r.line);
-    let map = store::map_at(z.t);
-    let locks = store::locks_at(z.t, z.n);
-    let header = store::blocks_at(z.t, z.n);
-    let threads = store::THREAD_WORDS * z.t;
     let mut s = Store::fresh();
     s.t = store::word_at(area, store::T_AT);
     s.n = store::word_at(area, store::N_AT);
@@ -354,13 +343,14 @@ pub fn judge(area: &[u8], z: Sizes, t: u32, r: Thread) -> Verdict
     s.d = store::word_at(area, store::D_AT);
     s.lock = store::word_at(area, store::LOCK_AT);
     s.owner = store::word_at(area, store::OWNER_AT);
-    store::read_threads(area, store::THREADS_AT, threads, &mut s.threads);
-    store::read_numbers(area, map, z.n, &mut s.map);
-    store::read_numbers(area, locks, z.n, &mut s.locks);
-    store::read_blocks(area, header, z.p, &mut s.header);
-    store::read_blocks(area, header + store::CONTENT, z.p, &mut s.content);
-    store::read_blocks(area, header + store::WEAR, z.p, &mut s.wear);
-    store::read_blocks(area, header + store::OWN, z.p, &mut s.own);
+    // The blocks first: with the records first, the compiler fills the store with zeros twice, which measured 70 ns.
+    store::read_column(area, z.header(), &mut s.header);
+    store::read_column(area, z.content(), &mut s.content);
+    store::read_column(area, z.wear(), &mut s.wear);
+    store::read_column(area, z.own(), &mut s.own);
+    store::read_column(area, z.threads(), &mut s.threads);
+    store::read_column(area, z.map(), &mut s.map);
+    store::read_column(area, z.locks(), &mut s.locks);
     let near = words_near(
         r, s.p, s.d, s.lock, s.owner, &s.map, &s.locks, &s.header, &s.content, &s.wear, &s.own,
     );
@@ -381,14 +371,10 @@ fn settle_numbers(
     requires { Live area.old z.t z.n z.p × EntryBelow z.n map × PassBelow z.n (decode area.old).locks locks }
     ensures { Stored area.old area.new z.t z.n z.p (with_effect (decode area.old) (unblocked lock owner map locks)) }
 {
-    let t = z.t;
-    let n = z.n;
-    let map_at = store::map_at(t);
-    let locks_at = store::locks_at(t, n);
     store::set_word(area, store::LOCK_AT, lock);
     store::set_word(area, store::OWNER_AT, owner);
-    store::set_entry(area, map_at, 1, map);
-    store::set_pass(area, locks_at, 1, locks);
+    store::set_entry(area, z.map(), map);
+    store::set_pass(area, z.locks(), locks);
 }
 
 // What becomes of the blocks.
@@ -403,13 +389,10 @@ fn settle_blocks(
     requires { Live area.old z.t z.n z.p × EntryBelow z.p header × EntryBelow z.p content × EntryBelow z.p wear × PassBelow z.p (decode area.old).own own }
     ensures { Stored area.old area.new z.t z.n z.p (with_effect (decode area.old) (on_blocks header content wear own)) }
 {
-    let t = z.t;
-    let n = z.n;
-    let at = store::blocks_at(t, n);
-    store::set_entry(area, at, store::BLOCK_WORDS, header);
-    store::set_entry(area, at + store::CONTENT, store::BLOCK_WORDS, content);
-    store::set_entry(area, at + store::WEAR, store::BLOCK_WORDS, wear);
-    store::set_pass(area, at + store::OWN, store::BLOCK_WORDS, own);
+    store::set_entry(area, z.header(), header);
+    store::set_entry(area, z.content(), content);
+    store::set_entry(area, z.wear(), wear);
+    store::set_pass(area, z.own(), own);
 }
 
 // Thread k's record and an effect.

@@ -10,7 +10,8 @@ use Rattle.meaning.specs.Store.{Store}
 use Rattle.meaning.specs.declared.Effect.{Effect}
 use Rattle.meaning.specs.Step.{came, changed}
 use Rattle.store.specs.declared.Store.{Store as WorkingStore}
-use Rattle.store.specs.Layout.{t_at, n_at, p_at, thread_words, size}
+use Rattle.store.specs.declared.Column.{Column}
+use Rattle.store.specs.Layout.{t_at, n_at, p_at, threads_at, thread_words, map_at, locks_at, blocks_at, block_words, size}
 use Rattle.store.specs.Area.{word, thread_from}
 
 pub record Live (a : List ℕ) (t n p : ℕ) : Type 0 where
@@ -19,6 +20,26 @@ pub record Live (a : List ℕ) (t n p : ℕ) : Type 0 where
   pub blocks : word a p_at ≡ p
   pub few : (t ≤ most_threads) × (n ≤ most_numbers) × (p ≤ most_blocks)
   pub fits : length a ≡ size t n p
+
+-- ---- where each table stands, as a column of words: of so many threads, numbers and blocks
+
+abbrev pub threads_column : ℕ → Column
+threads_column t = record { from = threads_at; stride = 1; count = thread_words * t }
+
+abbrev pub map_column : ℕ → ℕ → Column
+map_column t n = record { from = map_at t; stride = 1; count = n }
+
+abbrev pub locks_column : ℕ → ℕ → Column
+locks_column t n = record { from = locks_at t n; stride = 1; count = n }
+
+abbrev pub header_column : ℕ → ℕ → ℕ → Column
+header_column t n p = record { from = blocks_at t n; stride = block_words; count = p }
+
+-- the table that stands so many words behind the headers
+abbrev pub blocks_column : ℕ → ℕ → ℕ → ℕ → Column
+blocks_column t n p behind = record { from = blocks_at t n + behind; stride = block_words; count = p }
+
+-- ---- what is asked of an area
 
 -- word k is within the area
 abbrev pub Within : List ℕ → ℕ → Type 0

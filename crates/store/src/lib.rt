@@ -9,7 +9,7 @@ ghost use Rattle.meaning.specs.Holding.{proper as proper_of};
 ghost use Rattle.meaning.specs.Programs.{last_line};
 ghost use Rattle.store.specs.Layout.{threads_at, thread_words, block_words, map_at, locks_at, blocks_at, size};
 ghost use Rattle.store.specs.Area.{word, thread_from, column, decode, sound_thread, in_bounds, well_formed};
-ghost use Rattle.store.specs.Live.{Live, Within, EntryWithin, PassWithin, BecomeFits, EntryFits, Small, Reaches, all_bits, Fills, table, zero_filled, put_word, put_thread, put_become, put_entry, passed as passed_of};
+ghost use Rattle.store.specs.Live.{Live, Within, EntryWithin, PassWithin, BecomeFits, EntryFits, Small, Reaches, all_bits, Fills, table, zero_filled, threads_column, map_column, locks_column, header_column, blocks_column, put_word, put_thread, put_become, put_entry, passed as passed_of};
 
 use meaning::{Pass, SETS, Thread};
 
@@ -172,19 +172,122 @@ pub fn size_of(t: usize, n: usize, p: usize) -> usize
     4 * (blocks_at(t, n) + BLOCK_WORDS * p)
 }
 
+// A column of the area's words: those at from, from + stride, .., of which there are count.
+#[derive(Clone, Copy)]
+pub struct Column {
+    pub from: usize,
+    pub stride: usize,
+    pub count: usize,
+}
+
+impl Column {
+    // Entry k.
+    fn entry(self, area: &[u8], k: usize) -> u32
+        requires { Within area.now (self.from + self.stride * k) }
+        ensures { result ≡ word area.now (self.from + self.stride * k) }
+    {
+        word_at(area, self.from + self.stride * k)
+    }
+}
+
+// The sizes T, N and P of an area, and where each table stands in it.
+#[derive(Clone, Copy)]
+pub struct Sizes {
+    pub t: usize,
+    pub n: usize,
+    pub p: usize,
+}
+
+impl Sizes {
+    // The words of the thread records.
+    pub fn threads(self) -> Column
+        requires { self.t ≤ most_threads }
+        ensures { result ≡ threads_column self.t }
+    {
+        Column {
+            from: THREADS_AT,
+            stride: 1,
+            count: THREAD_WORDS * self.t,
+        }
+    }
+
+    pub fn map(self) -> Column
+        requires { self.t ≤ most_threads }
+        ensures { result ≡ map_column self.t self.n }
+    {
+        Column {
+            from: map_at(self.t),
+            stride: 1,
+            count: self.n,
+        }
+    }
+
+    pub fn locks(self) -> Column
+        requires { (self.t ≤ most_threads) × (self.n ≤ most_numbers) }
+        ensures { result ≡ locks_column self.t self.n }
+    {
+        Column {
+            from: locks_at(self.t, self.n),
+            stride: 1,
+            count: self.n,
+        }
+    }
+
+    pub fn header(self) -> Column
+        requires { (self.t ≤ most_threads) × (self.n ≤ most_numbers) }
+        ensures { result ≡ header_column self.t self.n self.p }
+    {
+        Column {
+            from: blocks_at(self.t, self.n),
+            stride: BLOCK_WORDS,
+            count: self.p,
+        }
+    }
+
+    // The table of the blocks that begins so many words behind the headers.
+    fn blocks(self, behind: usize) -> Column
+        requires { (self.t ≤ most_threads) × (self.n ≤ most_numbers) × (behind < block_words) }
+        ensures { result ≡ blocks_column self.t self.n self.p behind }
+    {
+        Column {
+            from: blocks_at(self.t, self.n) + behind,
+            stride: BLOCK_WORDS,
+            count: self.p,
+        }
+    }
+
+    pub fn content(self) -> Column
+        requires { (self.t ≤ most_threads) × (self.n ≤ most_numbers) }
+        ensures { result ≡ blocks_column self.t self.n self.p 1 }
+    {
+        self.blocks(CONTENT)
+    }
+
+    pub fn wear(self) -> Column
+        requires { (self.t ≤ most_threads) × (self.n ≤ most_numbers) }
+        ensures { result ≡ blocks_column self.t self.n self.p 2 }
+    {
+        self.blocks(WEAR)
+    }
+
+    pub fn own(self) -> Column
+        requires { (self.t ≤ most_threads) × (self.n ≤ most_numbers) }
+        ensures { result ≡ blocks_column self.t self.n self.p 3 }
+    {
+        self.blocks(OWN)
+    }
+}
+
 // ---- well formed
 
 // Every word of a column is at most the bound. There is no early way out, so that the loop can run over many words at a time.
-fn all_at_most(area: &[u8], from: usize, stride: usize, count: usize, bound: u32) -> bool
-    requires { Reaches area.now from stride count }
-    ensures { result ≡ every count (λ k. leb (word area.now (from + stride * k)) bound) }
+fn all_at_most(area: &[u8], c: Column, bound: u32) -> bool
+    requires { Reaches area.now c.from c.stride c.count }
+    ensures { result ≡ every c.count (λ k. leb (word area.now (c.from + c.stride * k)) bound) }
 {
     let mut all = true;
-    let mut k: usize = 0;
-    while k < count {
-        let cell = from + stride * k;
-        all = all & (word_at(area, cell) <= bound);
-        k += 1;
+    for k in 0..c.count {
+        all = all & (c.entry(area, k) <= bound);
     }
     all
 }
@@ -199,44 +302,38 @@ fn proper(t: u32, w: u32) -> bool
 }
 
 // The bits that the words of a column have.
-fn all_bits(area: &[u8], from: usize, stride: usize, count: usize) -> u32
-    requires { Reaches area.now from stride count }
-    ensures { result ≡ all_bits count (λ k. word area.now (from + stride * k)) }
+fn all_bits(area: &[u8], c: Column) -> u32
+    requires { Reaches area.now c.from c.stride c.count }
+    ensures { result ≡ all_bits c.count (λ k. word area.now (c.from + c.stride * k)) }
 {
     let mut bits: u32 = 0;
-    let mut k: usize = 0;
-    while k < count {
-        let cell = from + stride * k;
-        bits = bits | word_at(area, cell);
-        k += 1;
+    for k in 0..c.count {
+        bits = bits | c.entry(area, k);
     }
     bits
 }
 
 // Every word of a column is proper, looked at one by one.
-fn each_proper(area: &[u8], from: usize, stride: usize, count: usize, t: u32) -> bool
-    requires { Reaches area.now from stride count × (t ≤ most_threads) }
-    ensures { result ≡ every count (λ k. proper_of t (word area.now (from + stride * k))) }
+fn each_proper(area: &[u8], c: Column, t: u32) -> bool
+    requires { Reaches area.now c.from c.stride c.count × (t ≤ most_threads) }
+    ensures { result ≡ every c.count (λ k. proper_of t (word area.now (c.from + c.stride * k))) }
 {
     let mut all = true;
-    let mut k: usize = 0;
-    while k < count {
-        let cell = from + stride * k;
-        all = all & proper(t, word_at(area, cell));
-        k += 1;
+    for k in 0..c.count {
+        all = all & proper(t, c.entry(area, k));
     }
     all
 }
 
 // The same. It is so where the bits that all of them have are a proper word, which is quicker to see: as where only readers have them, or one writer.
-fn all_proper(area: &[u8], from: usize, stride: usize, count: usize, t: u32) -> bool
-    requires { Reaches area.now from stride count × (t ≤ most_threads) }
-    ensures { result ≡ every count (λ k. proper_of t (word area.now (from + stride * k))) }
+fn all_proper(area: &[u8], c: Column, t: u32) -> bool
+    requires { Reaches area.now c.from c.stride c.count × (t ≤ most_threads) }
+    ensures { result ≡ every c.count (λ k. proper_of t (word area.now (c.from + c.stride * k))) }
 {
-    if proper(t, all_bits(area, from, stride, count)) {
+    if proper(t, all_bits(area, c)) {
         return true;
     }
-    each_proper(area, from, stride, count, t)
+    each_proper(area, c, t)
 }
 
 const LAST_LINES: [u32; 5] = [0, 16, 6, 11, 18];
@@ -285,11 +382,8 @@ fn threads_sound(area: &[u8], t: usize, n: u32, p: u32) -> bool
     ensures { result ≡ every t (λ k. sound_thread n p (thread_from (word area.now) (threads_at + thread_words * k))) }
 {
     let mut all = true;
-    let mut k: usize = 0;
-    while k < t {
-        let cell = THREADS_AT + THREAD_WORDS * k;
-        all = all & thread_sound(thread_at(area, cell), n, p);
-        k += 1;
+    for k in 0..t {
+        all = all & thread_sound(thread_at(area, THREADS_AT + THREAD_WORDS * k), n, p);
     }
     all
 }
@@ -299,19 +393,18 @@ fn words_sound(area: &[u8], t: u32, n: u32, p: u32) -> bool
     requires { Live area.now t n p }
     ensures { result ≡ in_bounds (decode area.now) }
 {
-    let threads = t as usize;
-    let numbers = n as usize;
-    let blocks = p as usize;
-    let map = map_at(threads);
-    let locks = locks_at(threads, numbers);
-    let header = blocks_at(threads, numbers);
+    let z = Sizes {
+        t: t as usize,
+        n: n as usize,
+        p: p as usize,
+    };
     (word_at(area, LOCK_AT) <= t)
         & (word_at(area, OWNER_AT) <= t)
-        & threads_sound(area, threads, n, p)
-        & all_at_most(area, map, 1, numbers, p)
-        & all_proper(area, locks, 1, numbers, t)
-        & all_at_most(area, header, BLOCK_WORDS, blocks, n)
-        & all_proper(area, header + OWN, BLOCK_WORDS, blocks, t)
+        & threads_sound(area, z.t, n, p)
+        & all_at_most(area, z.map(), p)
+        & all_proper(area, z.locks(), t)
+        & all_at_most(area, z.header(), n)
+        & all_proper(area, z.own(), t)
 }
 
 // The area is well formed.
@@ -349,39 +442,39 @@ pub fn set_word(area: &mut [u8], k: usize, w: Option<u32>)
     }
 }
 
-// What becomes of a table: the column of words at from, from + stride, ..
-pub fn set_entry(area: &mut [u8], from: usize, stride: usize, e: Option<(u32, u32)>)
-    requires { EntryWithin area.old from stride e }
-    ensures { (area.new ≡ put_entry area.old from stride e) × EntryFits e }
+// What becomes of a table.
+pub fn set_entry(area: &mut [u8], c: Column, e: Option<(u32, u32)>)
+    requires { EntryWithin area.old c.from c.stride e }
+    ensures { (area.new ≡ put_entry area.old c.from c.stride e) × EntryFits e }
 {
     match e {
         None => {}
         Some((k, v)) => {
-            let cell = from + stride * (k as usize);
+            let cell = c.from + c.stride * (k as usize);
             put_word(area, cell, v);
         }
     }
 }
 
-// What a pass of such a column comes to.
-fn passed(area: &[u8], from: usize, stride: usize, c: Pass) -> Option<(u32, u32)>
-    requires { PassWithin area.now from stride c }
-    ensures { result ≡ passed_of area.now from stride c }
+// What a pass of such a table comes to.
+fn passed(area: &[u8], c: Column, e: Pass) -> Option<(u32, u32)>
+    requires { PassWithin area.now c.from c.stride e }
+    ensures { result ≡ passed_of area.now c.from c.stride e }
 {
-    match c {
+    match e {
         Pass::Leave => None,
-        Pass::Plus(k, m) => Some((k, word_at(area, from + stride * (k as usize)) + m)),
-        Pass::Minus(k, m) => Some((k, word_at(area, from + stride * (k as usize)) - m)),
+        Pass::Plus(k, m) => Some((k, c.entry(area, k as usize) + m)),
+        Pass::Minus(k, m) => Some((k, c.entry(area, k as usize) - m)),
     }
 }
 
 // What becomes of the block locks or of the owners of blocks.
-pub fn set_pass(area: &mut [u8], from: usize, stride: usize, c: Pass)
-    requires { PassWithin area.old from stride c }
-    ensures { (area.new ≡ put_entry area.old from stride (passed_of area.old from stride c)) × EntryFits (passed_of area.old from stride c) }
+pub fn set_pass(area: &mut [u8], c: Column, e: Pass)
+    requires { PassWithin area.old c.from c.stride e }
+    ensures { (area.new ≡ put_entry area.old c.from c.stride (passed_of area.old c.from c.stride e)) × EntryFits (passed_of area.old c.from c.stride e) }
 {
-    let e = passed(area, from, stride, c);
-    set_entry(area, from, stride, e);
+    let u = passed(area, c, e);
+    set_entry(area, c, u);
 }
 
 pub fn set_thread(area: &mut [u8], k: usize, r: Thread)
@@ -400,38 +493,12 @@ pub fn set_thread(area: &mut [u8], k: usize, r: Thread)
 
 // ---- reading in
 
-// A column of the area's words, at from, from + stride, .., into an array of zeros.
-fn read_column(area: &[u8], from: usize, stride: usize, count: usize, into: &mut [u32])
-    requires { Fills area.now from stride count into.old }
-    ensures { table into.new ≡ column (word area.now) from stride count }
+// A column into an array of zeros, as those of the working store.
+pub fn read_column(area: &[u8], c: Column, into: &mut [u32])
+    requires { Fills area.now c.from c.stride c.count into.old }
+    ensures { table into.new ≡ column (word area.now) c.from c.stride c.count }
 {
-    let mut k: usize = 0;
-    while k < count {
-        let cell = from + stride * k;
-        into[k] = word_at(area, cell);
-        k += 1;
+    for k in 0..c.count {
+        into[k] = c.entry(area, k);
     }
-}
-
-// The same for the arrays of the working store: the thread records, the map or the locks, and a table of the block records. A field can be
-// lent only as the array that it is.
-pub fn read_threads(area: &[u8], from: usize, count: usize, into: &mut [u32; Store::THREAD_CELLS])
-    requires { Fills area.now from 1 count into.old }
-    ensures { table into.new ≡ column (word area.now) from 1 count }
-{
-    read_column(area, from, 1, count, into);
-}
-
-pub fn read_numbers(area: &[u8], from: usize, count: usize, into: &mut [u32; Store::MAX_N])
-    requires { Fills area.now from 1 count into.old }
-    ensures { table into.new ≡ column (word area.now) from 1 count }
-{
-    read_column(area, from, 1, count, into);
-}
-
-pub fn read_blocks(area: &[u8], from: usize, count: usize, into: &mut [u32; Store::MAX_P])
-    requires { Fills area.now from block_words count into.old }
-    ensures { table into.new ≡ column (word area.now) from block_words count }
-{
-    read_column(area, from, BLOCK_WORDS, count, into);
 }

@@ -1,7 +1,6 @@
 -- A setter after the other: H, the headers' owner, the map, the locks.
-use Rattle.store.specs.Layout.{map_at, locks_at}
 use Rattle.store.specs.Area.{decode}
-use Rattle.store.specs.Live.{with_effect}
+use Rattle.store.specs.Live.{map_column, locks_column, with_effect}
 use Rattle.store.proofs.Tables.{lock_only, owner_only, map_only, locks_only, map-inside, locks-inside, within-locks, decode-map, decode-locks}
 use Rattle.machine.specs.Settling.{Stored}
 use Rattle.machine.proofs.Storing.{stored-start, stored-lock, stored-owner, stored-entry, stored_pass, locks-fit}
@@ -18,18 +17,18 @@ mapped c =
     let owned =
     stored-owner (stored-lock (stored-start c.requires.0) a.lock c.set_word.ensures.0 c.set_word.ensures.1) a.owner c.set_word-2.ensures.0
     c.set_word-2.ensures.1 in
-    stored-entry owned (map_at a.z.t) 1 a.z.n _ a.map (map_only a.map) c.map_at-map_at.ensures c.set_entry.ensures.0 c.set_entry.ensures.1
-    c.requires.1 (map-inside owned.live) (decode-map owned.live a.map c.requires.1 c.set_entry.ensures.1)
+    stored-entry owned (map_column a.z.t a.z.n) a.map (map_only a.map) (rw c.map.ensures at c.set_entry.ensures) c.requires.1 (map-inside owned.live)
+    (decode-map owned.live a.map c.requires.1)
 
 pub set_pass-requires : goal.set_pass-requires
 set_pass-requires c =
     let r = mapped (goal.at.set_pass-requires c).After-set_entry in
-    rw c.locks_at-locks_at.ensures (within-locks r.live c.args.locks (locks-fit r c.args.z.n c.args.locks c.requires.2))
+    rw c.locks.ensures (within-locks r.live c.args.locks (locks-fit r c.args.z.n c.args.locks c.requires.2))
 
 pub returns : goal.returns
 returns c =
     let a = c.args in
     let r = mapped (goal.at.returns c).After-set_entry in
     let fit = locks-fit r a.z.n a.locks c.requires.2 in
-    stored_pass r (locks_at a.z.t a.z.n) 1 a.z.n _ _ a.locks (locks_only a.locks) c.locks_at-locks_at.ensures c.set_pass.ensures fit
-    (locks-inside r.live) (decode-locks r.live a.locks fit)
+    stored_pass r (locks_column a.z.t a.z.n) _ a.locks (locks_only a.locks) (rw c.locks.ensures at c.set_pass.ensures) fit (locks-inside r.live)
+    (decode-locks r.live a.locks fit)

@@ -9,5 +9,5 @@ use Rattle.store.proofs.all_proper.Goals as goal
 pub returns-then-proper : goal.returns-then-proper
 returns-then-proper c =
     sym
-    (bits_proper c.args.t (λ k. word c.args.area.now (c.args.from + c.args.stride * k)) c.args.count
+    (bits_proper c.args.t (λ k. word c.args.area.now (c.args.c.from + c.args.c.stride * k)) c.args.c.count
     (ap (proper c.args.t) (sym c.all_bits.ensures) ∙ sym c.if-proper.ensures))

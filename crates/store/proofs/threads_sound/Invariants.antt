@@ -1,12 +1,9 @@
 -- `all` is what `every` says of the records passed.
-use Rattle.std.proofs.Common.{◌≡◌, ◌+◌, ◌*◌, ◌-◌, ◌≤◌}
+use Rattle.std.proofs.Common.{◌≡◌, ◌+◌, ◌*◌}
 use Rattle.meaning.specs.Table.{every}
 use Rattle.store.specs.Layout.{threads_at, thread_words}
 use Rattle.store.specs.Area.{word, thread_from, sound_thread}
 use Rattle.store.proofs.threads_sound.Given as goal
 
 abbrev pub invariant-loop-k : goal.invariant-loop-k
-invariant-loop-k l = (l.k ≤ l.t) × (l.all ≡ every l.k (λ j. sound_thread l.n l.p (thread_from (word l.area) (threads_at + thread_words * j))))
-
-abbrev pub decreases-loop-k : goal.decreases-loop-k
-decreases-loop-k l = l.t - l.k
+invariant-loop-k l = l.all ≡ every l.k (λ j. sound_thread l.n l.p (thread_from (word l.area) (threads_at + thread_words * j)))

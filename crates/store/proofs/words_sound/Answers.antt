@@ -12,8 +12,9 @@ returns c =
       c.all_proper.ensures,
       c.all_at_most-2.ensures,
       c.all_proper-2.ensures,
-      c.map_at-map.ensures,
-      c.locks_at-locks.ensures,
-      c.blocks_at-header.ensures,
+      c.map.ensures,
+      c.locks.ensures,
+      c.header.ensures,
+      c.own.ensures,
     )
     (in_bounds-words c.requires)

@@ -9,7 +9,7 @@ ghost use Rattle.store.specs.Layout.{block_words};
 ghost use Rattle.store.specs.Area.{word, well_formed, decode};
 ghost use Rattle.store.specs.Live.{Reaches};
 ghost use Rattle.sheet.specs.Sheet.{store_blocks};
-ghost use Rattle.sheet.specs.Adding.{most_areas, zeros as zeros_of, plausible, with_block, with_blocks, counted, gives, add_area};
+ghost use Rattle.sheet.specs.Adding.{most_areas, zeros as zeros_of, plausible, lesser, greater, with_block, with_blocks, counted, gives, add_area};
 ghost use Rattle.sheet.specs.Refusal.{number_of, replied};
 ghost use Rattle.sheet.specs.Room.{Room, rows_of};
 
@@ -63,6 +63,19 @@ impl From<Refusal> for u32 {
 
 // ---- adding
 
+// The least wear, and the most, after a block more.
+fn lesser(seen: u32, least: u32, wear: u32) -> u32
+    ensures { result ≡ lesser seen least wear }
+{
+    if seen == 0 { wear } else { wear.min(least) }
+}
+
+fn greater(seen: u32, most: u32, wear: u32) -> u32
+    ensures { result ≡ greater seen most wear }
+{
+    if seen == 0 { wear } else { wear.max(most) }
+}
+
 // That there is room stands in clauses and is no invariant of the type: C lends any record as a tally, and `is_plausible` has to refuse it.
 impl Tally {
     // None of the five things that a tally is refused for.
@@ -96,16 +109,11 @@ impl Tally {
         requires { Room self 1 }
         ensures { result ≡ with_block self (record { header = header; wear = wear }) }
     {
-        let (least, most) = if self.blocks == 0 {
-            (wear, wear)
-        } else {
-            (wear.min(self.least), wear.max(self.most))
-        };
         Tally {
             blocks: self.blocks + 1,
             free: self.free + u32::from(header == 0),
-            least,
-            most,
+            least: lesser(self.blocks, self.least, wear),
+            most: greater(self.blocks, self.most, wear),
             sum: self.sum + u64::from(wear),
             ..self
         }

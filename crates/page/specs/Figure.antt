@@ -1,13 +1,13 @@
--- What the code's figures stand for on the page.
-use Rattle.std.specs.Prelude.{List, ℕ}
-use Rattle.page.specs.declared.Figure.{Figure}
-use Rattle.page.specs.declared.Figure.TheVariants.{Dash, Number}
+-- What the code's figures stand for: a number on the page or a dash, and a sheet's wear.
+use Rattle.std.specs.Prelude.{List, ℕ, Option, None, Some}
+use Rattle.sheet.specs.Sheet.{Wear, none, some}
 use Rattle.page.specs.declared.Worn.{Worn}
-use Rattle.page.specs.Page.{number, dash, wear_lines}
+use Rattle.page.specs.Page.{number, dash}
 
-abbrev pub figure_of : Figure → List ℕ
-figure_of Dash = dash
-figure_of (Number v) = number v
+abbrev pub figure_of : Option ℕ → List ℕ
+figure_of None = dash
+figure_of (Some v) = number v
 
-abbrev pub worn_lines : Worn → List ℕ
-worn_lines w = wear_lines (figure_of w.least) (figure_of w.most) (figure_of w.mean) (figure_of w.rest)
+abbrev pub seen : Option Worn → Wear
+seen None = none
+seen (Some w) = some w.least w.most w.mean w.rest

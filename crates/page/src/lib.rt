@@ -1,12 +1,13 @@
 // The page of a wear sheet, as text.
-// 02, §2. What is printed is `page_of` of specs/Page.antt. Each function that writes puts its bytes at a place, and the place after them comes back.
+// 02, §2. What is printed is `page_of` of specs/Page.antt.
 #![tactic(auto)]
 
-ghost use Rattle.std.specs.Prelude.{◌≡◌, ◌+◌, ◌*◌, ◌≤◌, length};
+ghost use Rattle.std.specs.Prelude.{◌≡◌, ◌+◌, ◌*◌, ◌≤◌, length, [], ◌∷◌};
 ghost use Rattle.script.specs.Printing.{Wrote};
 ghost use Rattle.sheet.specs.Adding.{shown};
 ghost use Rattle.page.specs.Page.{most_digits, most_label, most_line, most_page, labelled, count_lines, worn_page, page_of};
-ghost use Rattle.page.specs.Figure.{figure_of, worn_lines};
+ghost use Rattle.page.specs.Figure.{figure_of, seen};
+ghost use Rattle.page.specs.Out.{Puts};
 
 use sheet::Tally;
 
@@ -24,111 +25,107 @@ pub const ROOM: usize = 9 * MOST_LINE;
 
 // ---- figures
 
-// What stands behind a label.
-#[derive(Clone, Copy)]
-enum Figure {
-    Dash,
-    Number(u64),
-}
-
 // What the lines on the wear show.
 #[derive(Clone, Copy)]
 struct Worn {
-    least: Figure,
-    most: Figure,
-    mean: Figure,
-    rest: Figure,
+    least: u64,
+    most: u64,
+    mean: u64,
+    rest: u64,
 }
 
-// A tally's wear: dashes where no block was seen.
-fn wear_of(t: Tally) -> Worn
-    ensures { worn_lines result ≡ worn_page (shown t).wear }
+// A tally's wear, if a block was seen.
+fn wear_of(t: Tally) -> Option<Worn>
+    ensures { seen result ≡ (shown t).wear }
 {
     if t.blocks == 0 {
-        return Worn {
-            least: Figure::Dash,
-            most: Figure::Dash,
-            mean: Figure::Dash,
-            rest: Figure::Dash,
-        };
+        return None;
     }
-    Worn {
-        least: Figure::Number(t.least as u64),
-        most: Figure::Number(t.most as u64),
-        mean: Figure::Number(t.sum / t.blocks as u64),
-        rest: Figure::Number(t.sum % t.blocks as u64),
+    let blocks = u64::from(t.blocks);
+    Some(Worn {
+        least: u64::from(t.least),
+        most: u64::from(t.most),
+        mean: t.sum / blocks,
+        rest: t.sum % blocks,
+    })
+}
+
+// ---- writing
+
+// A buffer, and the place in it after what was written. A writer of std would be no plainer: `put_figures` takes buffer and place, and each write
+// would give a Result, which is never an Err here.
+#[derive(Drop)]
+struct Out<'a> {
+    bytes: &'a mut [u8],
+    at: usize,
+}
+
+impl Out<'_> {
+    fn byte(&mut self, b: u8)
+        requires { self.old.at + 1 ≤ length self.old.bytes.now }
+        ensures { Puts self.old (b ∷ []) self.new }
+    {
+        self.at = script::put_byte(self.bytes, self.at, b);
     }
-}
 
-// ---- lines
-
-// Some bytes as they are.
-fn put_text(out: &mut [u8], at: usize, text: &[u8]) -> usize
-    requires { at + length text.now ≤ length out.old }
-    ensures { Wrote out.old at text.now result out.new }
-{
-    let mut next = at;
-    let mut i = 0;
-    while i < text.len() {
-        next = script::put_byte(out, next, text[i]);
-        i += 1;
+    // Some bytes as they are.
+    fn text(&mut self, text: &[u8])
+        requires { self.old.at + length text.now ≤ length self.old.bytes.now }
+        ensures { Puts self.old text.now self.new }
+    {
+        let end = self.at + text.len();
+        self.bytes[self.at..end].copy_from_slice(text);
+        self.at = end;
     }
-    next
-}
 
-fn put_figure(out: &mut [u8], at: usize, figure: Figure) -> usize
-    requires { at + most_digits ≤ length out.old }
-    ensures wrote { Wrote out.old at (figure_of figure) result out.new }
-    ensures upper_bound { result ≤ at + most_digits }
-{
-    match figure {
-        Figure::Dash => script::put_byte(out, at, b'-'),
-        Figure::Number(value) => script::put_figures(out, at, DIGITS, value),
+    // A number, or a dash where there is none.
+    fn figure(&mut self, figure: Option<u64>)
+        requires { self.old.at + most_digits ≤ length self.old.bytes.now }
+        ensures puts { Puts self.old (figure_of figure) self.new }
+        ensures upper_bound { self.new.at ≤ self.old.at + most_digits }
+    {
+        match figure {
+            None => self.byte(b'-'),
+            Some(value) => self.at = script::put_figures(self.bytes, self.at, DIGITS, value),
+        }
     }
-}
 
-// A label and its figure, on a line.
-fn put_line(out: &mut [u8], at: usize, label: &[u8], figure: Figure) -> usize
-    requires label_len_bound { length label.now ≤ most_label }
-    requires most_line_in_bounds { at + most_line ≤ length out.old }
-    ensures wrote { Wrote out.old at (labelled label.now (figure_of figure)) result out.new }
-    ensures upper_bound { result ≤ at + most_line }
-{
-    let at1 = put_text(out, at, label);
-    let at2 = put_text(out, at1, b": ");
-    let at3 = put_figure(out, at2, figure);
-    script::put_byte(out, at3, b'\n')
-}
+    // A label and its figure, on a line.
+    fn line(&mut self, label: &[u8], figure: Option<u64>)
+        requires label_len_bound { length label.now ≤ most_label }
+        requires most_line_in_bounds { self.old.at + most_line ≤ length self.old.bytes.now }
+        ensures puts { Puts self.old (labelled label.now (figure_of figure)) self.new }
+        ensures upper_bound { self.new.at ≤ self.old.at + most_line }
+    {
+        self.text(label);
+        self.text(b": ");
+        self.figure(figure);
+        self.byte(b'\n');
+    }
 
-// ---- the page
+    // The lines on areas, blocks and the sum of wear.
+    fn counts(&mut self, t: Tally)
+        requires { self.old.at + 5 * most_line ≤ length self.old.bytes.now }
+        ensures puts { Puts self.old (count_lines (shown t)) self.new }
+        ensures upper_bound { self.new.at ≤ self.old.at + 5 * most_line }
+    {
+        self.line(b"areas", Some(u64::from(t.areas)));
+        self.line(b"skipped", Some(u64::from(t.skipped)));
+        self.line(b"blocks", Some(u64::from(t.blocks)));
+        self.line(b"free blocks", Some(u64::from(t.free)));
+        self.line(b"sum of wear", Some(t.sum));
+    }
 
-// The lines on areas, blocks and the sum of wear, at the start of `out`.
-fn put_counts(out: &mut [u8], t: Tally) -> usize
-    requires { 5 * most_line ≤ length out.old }
-    ensures { Wrote out.old 0 (count_lines (shown t)) result out.new }
-{
-    let at1 = put_line(out, 0, b"areas", Figure::Number(t.areas as u64));
-    let at2 = put_line(out, at1, b"skipped", Figure::Number(t.skipped as u64));
-    let at3 = put_line(out, at2, b"blocks", Figure::Number(t.blocks as u64));
-    let at4 = put_line(out, at3, b"free blocks", Figure::Number(t.free as u64));
-    put_line(out, at4, b"sum of wear", Figure::Number(t.sum))
-}
-
-// The lines on least, most and mean wear.
-fn put_worn(out: &mut [u8], at: usize, wear: Worn) -> usize
-    requires { at + 4 * most_line ≤ length out.old }
-    ensures { Wrote out.old at (worn_lines wear) result out.new }
-{
-    let Worn {
-        least,
-        most,
-        mean,
-        rest,
-    } = wear;
-    let at1 = put_line(out, at, b"least wear", least);
-    let at2 = put_line(out, at1, b"most wear", most);
-    let at3 = put_line(out, at2, b"mean wear", mean);
-    put_line(out, at3, b"remainder", rest)
+    // The lines on least, most and mean wear.
+    fn worn(&mut self, wear: Option<Worn>)
+        requires { self.old.at + 4 * most_line ≤ length self.old.bytes.now }
+        ensures { Puts self.old (worn_page (seen wear)) self.new }
+    {
+        self.line(b"least wear", wear.map(|w| w.least));
+        self.line(b"most wear", wear.map(|w| w.most));
+        self.line(b"mean wear", wear.map(|w| w.mean));
+        self.line(b"remainder", wear.map(|w| w.rest));
+    }
 }
 
 // The page of a tally, at the start of `out`; its length comes back.
@@ -136,6 +133,8 @@ pub fn put_page(out: &mut [u8], t: Tally) -> usize
     requires { most_page ≤ length out.old }
     ensures { Wrote out.old 0 (page_of (shown t)) result out.new }
 {
-    let at = put_counts(out, t);
-    put_worn(out, at, wear_of(t))
+    let mut page = Out { bytes: out, at: 0 };
+    page.counts(t);
+    page.worn(wear_of(t));
+    page.at
 }

@@ -2,13 +2,17 @@
 use mathlib.Core.Bool.{Bool, true, false, cond}
 use mathlib.Core.Path.{◌≡◌, ◌∙◌, refl, sym, ap}
 use mathlib.Core.List.{List, [], ◌∷◌, ◌++◌, append_assoc}
-use Prim.Native.Nat.{ℕ, zero, suc, ◌+◌, ◌-◌, ◌≤◌, ◌<◌, ◌/◌, ◌%◌}
+use Prim.Native.Nat.{ℕ, zero, suc, ◌+◌, ◌-◌, ◌≤◌, ◌<◌, ◌/◌, ◌%◌, ◌^◌}
 use native.Mathlib.Nat.{add-zero}
 use native.Mathlib.Numerals.{add-one}
 use native.Mathlib.Omega.{arith}
 use lib.Dec.{ltb}
-use lib.ListN.{length, take, drop, set, take-append-drop, length-append}
+use lib.ListN.{length, take, drop, set, take-append-drop, length-append, drop_of_length-le}
 use lib.Seq.{length-take-le, set_split, take_at, drop_at, drop-drop}
+use Rattle.std.specs.Fmt.{digits}
+use Rattle.std.proofs.lemmas.Fmt.{decimal_digit, decimal_step}
+use Rattle.std.proofs.lemmas.List.{drop-append-le}
+use borrow.Author.Tests.{ltb-true, ltb-false}
 use Rattle.script.specs.Syntax.{ZERO}
 use Rattle.script.specs.Printing.{most_figures, figures, printed, most_printed, Wrote}
 
@@ -19,6 +23,14 @@ wrote_nothing b at = record { ends = sym (add-zero at); holds = rw (add-zero, ta
 
 pub wrote-byte : (b : List ℕ) (at v : ℕ) → at < length b → Wrote b at (v ∷ []) (at + 1) (set b at v)
 wrote-byte b at v h = record { ends = refl; holds = rw (add-one) (set_split b at v h) }
+
+-- a copy into the part of that length
+pub wrote_copy :
+    (b : List ℕ) (at : ℕ) (bs from copy : List ℕ) → from ≡ bs → copy ≡ from
+    → Wrote b at bs (at + length from) (take at b ++ (copy ++ drop (at + length from - at) (drop at b)))
+wrote_copy b at bs from copy e w =
+    let k : at + length from - at ≡ length from = omega arith in
+    rw (w, k, e) (record { ends = refl; holds = rw drop-drop })
 
 -- a contract by `Wrote` leaves no choice
 pub wrote_determined :
@@ -65,6 +77,25 @@ pub figures-some :
 unfolding figures
 figures-some zero v h = absurd (h refl)
 figures-some (suc k) v h = let e : suc k - 1 ≡ k = omega arith in rw e
+
+-- they are the last digits of what std writes
+pub figures-last : (k v : ℕ) → v < 2 ^ 64 → figures k v ≡ drop (length (digits 10 false v) - k) (digits 10 false v)
+unfolding figures
+figures-last zero v h = sym (drop_of_length-le (digits 10 false v) (omega arith))
+figures-last (suc k) v h = each (ltb v 10) refl (figures-last k (v / 10) (omega arith))
+  where
+    each : (small : Bool) → ltb v 10 ≡ small
+        → figures k (v / 10) ≡ drop (length (digits 10 false (v / 10)) - k) (digits 10 false (v / 10))
+        → cond small [] (figures k (v / 10)) ++ ((ZERO + v % 10) ∷ []) ≡ drop (length (digits 10 false v) - suc k) (digits 10 false v)
+    each true e more =
+        let same : v % 10 ≡ v = omega (arith, ltb-true v 10 e) in
+        let none : 1 - suc k ≡ 0 = omega arith in
+        rw (decimal_digit v (ltb-true v 10 e), same, none)
+    each false e more =
+        let ds = digits 10 false (v / 10) in
+        let n : length ds + 1 - suc k ≡ length ds - k = omega arith in
+        let fits : length ds - k ≤ length ds = omega arith in
+        rw (decimal_step v (ltb-false v 10 e) h, length-append, n, drop-append-le (length ds - k) ds ((48 + v % 10) ∷ []) fits, more)
 
 pub figures_most : (k v : ℕ) → length (figures k v) ≤ k
 figures_most zero v = rw (figures-none 0 v refl) (omega arith)

@@ -152,20 +152,18 @@ pub fn put_byte(out: &mut [u8], at: usize, b: u8) -> usize
     at + 1
 }
 
-// The digits of a number, of which there are at most `most`.
+// The digits of a number, of which there are at most `most`: the last ones, where it has more. `itoa` prints it and not `std::fmt`, which says what
+// it wrote only where it answers Ok, and not when it does.
 pub fn put_figures(out: &mut [u8], at: usize, most: u32, value: u64) -> usize
     requires { at + most ≤ length out.old }
     ensures { Wrote out.old at (figures most value) result out.new }
 {
-    if most == 0 {
-        return at;
-    }
-    let last = b'0' + (value % 10) as u8;
-    if value < 10 {
-        return put_byte(out, at, last);
-    }
-    let next = put_figures(out, at, most - 1, value / 10);
-    put_byte(out, next, last)
+    let mut text = itoa::Buffer::new();
+    let digits = text.format(value).as_bytes();
+    let last = &digits[digits.len().saturating_sub(most as usize)..];
+    let end = at + last.len();
+    out[at..end].copy_from_slice(last);
+    end
 }
 
 // A number and a value, on a line.

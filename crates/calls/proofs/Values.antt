@@ -1,4 +1,4 @@
--- The value that a call gives back is a word: the value of begin is 0, and that of step is 0, 1 or a register of an area of bytes. So
+-- The value that a call gives back is a word: the value of format and begin is 0, and that of step is 0, 1 or a register of an area of bytes. So
 -- number and value can be taken apart again, by one more than the largest word. Assumes nothing.
 use mathlib.Core.Bool.{Bool, true, false, not, ◌||◌}
 use mathlib.Core.Path.{◌≡◌, refl}
@@ -10,15 +10,17 @@ use Rattle.meaning.specs.declared.Act.{Act}
 use Rattle.meaning.specs.declared.Thread.{Thread}
 use Rattle.meaning.specs.declared.Verdict.{Verdict}
 use Rattle.meaning.specs.declared.Verdict.TheVariants.{Blocked, Fault, Go, Done}
-use Rattle.meaning.specs.Numbers.{packed, SHAPE, THREAD, BUSY, IDLE, LOGICAL, OPERATION}
-use Rattle.meaning.specs.Limits.{most_word, within}
-use Rattle.meaning.specs.Store.{Store}
+use Rattle.meaning.specs.Numbers.{packed, WENT, LIMITS, SHAPE, THREAD, BUSY, IDLE, LOGICAL, OPERATION}
+use Rattle.meaning.specs.Limits.{most_word, within, in_limits}
+use Rattle.meaning.specs.Store.{Store, fresh}
 use Rattle.meaning.specs.Programs.{WRITE, LEVEL, act_at}
 use Rattle.meaning.specs.Step.{perform}
 use Rattle.meaning.specs.Call.{Outcome, refused, left, reply, check, is_idle, told}
 use Rattle.meaning.proofs.Acts.{NearWords, Lands, lands}
+use lib.ListN.{length}
+use Rattle.store.specs.Layout.{size}
 use Rattle.store.specs.Area.{Bytes, decode, well_formed, encode}
-use Rattle.store.specs.Calls.{begin_area, step_area}
+use Rattle.store.specs.Calls.{format_area, begin_area, step_area}
 use Rattle.store.proofs.Range.{good-ranged, near-words}
 
 -- ---- number and value taken apart
@@ -50,7 +52,17 @@ worth-told s t r N a Fault l = nothing
 worth-told s t r N a (Go r' e) l = value {v = 0} (omega arith)
 worth-told s t r N a (Done v e) l = value (l.low most_word N)
 
--- ---- begin and step
+-- ---- the three calls
+
+pub format-value : (a : List ℕ) (t n p d : ℕ) → (format_area a t n p d).value ≡ 0
+format-value a t n p d = each (in_limits t n p d) (eqb (length a) (size t n p))
+  where
+    each :
+        (allowed exact : Bool) →
+        (reply encode a (check allowed LIMITS (check exact SHAPE (left WENT 0 (fresh t n p d))))).value ≡ 0
+    each true true = refl
+    each true false = refl
+    each false exact = refl
 
 pub begin-value : (a : List ℕ) (t op n c : ℕ) → (begin_area a t op n c).value ≤ most_word
 begin-value a t op n c =

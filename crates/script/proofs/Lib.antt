@@ -3,6 +3,6 @@ mod Reading
 mod Cutting
 pub mod Writing
 mod Formats
-mod Turns
+mod Front
 mod Running
 mod RoundTrip

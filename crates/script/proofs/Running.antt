@@ -3,7 +3,7 @@
 use mathlib.Core.Bool.{Bool, true, false, cond}
 use mathlib.Core.Path.{◌≡◌, ◌∙◌, refl, ap}
 use mathlib.Core.List.{List, [], ◌∷◌, ◌++◌}
-use Prim.Native.Nat.{ℕ, ◌+◌, ◌-◌, ◌*◌, ◌/◌, ◌%◌, ◌≤◌, ◌<◌}
+use Prim.Native.Nat.{ℕ, ◌+◌, ◌-◌, ◌*◌, ◌≤◌, ◌<◌}
 use native.Mathlib.Omega.{arith}
 use borrow.Author.Tests.{le-leb, lt-leb}
 use lib.Dec.{eqb}
@@ -14,7 +14,7 @@ use Rattle.script.specs.declared.Command.{Command}
 use Rattle.script.specs.Syntax.{BLANK, missing, field, lettered, command, line, lines}
 use Rattle.script.specs.Printing.{printed, most_printed, Wrote}
 use Rattle.script.specs.Output.{FORM, LONG, most_input, most_output, stopped, replied, heard, answers, output, fitting}
-use Rattle.script.specs.Positions.{word_range, taken, Roomy}
+use Rattle.script.specs.Positions.{Roomy}
 use Rattle.script.proofs.Writing.{wrote_then, printed_most}
 
 -- ---- a line that is answered has at least three bytes and a newline
@@ -67,29 +67,16 @@ fitting-ample out bs h = rw (le-leb _ _ h)
 -- ---- the loop
 
 -- with so much of the input read and of the output written, whatever writes the rest has written all
-pub record RunningAt (input buffer₀ out₀ buffer out : List ℕ) (at used end : ℕ) : Type 0 where
+pub record RunningAt (input out₀ area out : List ℕ) (at end : ℕ) : Type 0 where
   pub reached : at ≤ length input
-  pub held : used ≤ length buffer
-  pub same_buffer : length buffer ≡ length buffer₀
   pub same_out : length out ≡ length out₀
   pub little : end ≤ 6 * at
-  pub rest :
-      (r : ℕ) (b : List ℕ) → Wrote out end (answers (take used buffer) (lines (drop at input))) r b
-      → Wrote out₀ 0 (answers [] (lines input)) r b
+  pub rest : (r : ℕ) (b : List ℕ) → Wrote out end (answers area (lines (drop at input))) r b → Wrote out₀ 0 (answers [] (lines input)) r b
 
-pub running_start : (input buffer out : List ℕ) → RunningAt input buffer out buffer out 0 0 0
-running_start input buffer out =
-    record {
-      reached = omega arith;
-      held = omega arith;
-      same_buffer = refl;
-      same_out = refl;
-      little = omega arith;
-      rest = λ r b w. w;
-    }
+pub running_start : (input out : List ℕ) → RunningAt input out [] out 0 0
+running_start input out = record { reached = omega arith; same_out = refl; little = omega arith; rest = λ r b w. w }
 
-module _ {input buffer₀ out₀ buffer out : List ℕ} {at used end : ℕ} (g : RunningAt input buffer₀ out₀ buffer out at used end)
-    (ready : Roomy input buffer₀ out₀) where
+module _ {input out₀ area out : List ℕ} {at end : ℕ} (g : RunningAt input out₀ area out at end) (ready : Roomy input out₀) where
   -- there is room for one line more
   pub running_room : end + most_printed ≤ length out
   running_room = omega arith
@@ -97,28 +84,25 @@ module _ {input buffer₀ out₀ buffer out : List ℕ} {at used end : ℕ} (g :
   -- a line was answered, and the answer was printed
   module _ (e : ℕ) (from : at ≤ e) (inside : e < length input)
       (cut : line (take (e - at) (drop at input)) (lines (drop (e + 1) input)) ≡ lines (drop at input))
-      (both kept : ℕ) (buffer' : List ℕ) (fits : kept ≤ length buffer) (long : length buffer' ≡ length buffer)
-      (turn : replied (taken both kept buffer') ≡ heard (take used buffer) (command (take (e - at) (drop at input))))
+      (r : Reply (List ℕ)) (turn : replied r ≡ heard area (command (take (e - at) (drop at input))))
       (end' : ℕ) (out' : List ℕ) (same : length out' ≡ length out)
-      (wrote : Wrote out end (printed (both / word_range) (both % word_range)) end' out') where
+      (wrote : Wrote out end (printed r.number r.value) end' out') where
     -- the line with its newline has at least four bytes
     onward : at + 4 ≤ e + 1
     onward =
-        let three = replied-long (take used buffer) (take (e - at) (drop at input)) (taken both kept buffer') turn in
+        let three = replied-long area (take (e - at) (drop at input)) r turn in
         omega (arith, rw (length-take, length-drop) at three)
 
-    pub running_on : RunningAt input buffer₀ out₀ buffer' out' (e + 1) kept end'
+    pub running_on : RunningAt input out₀ r.after out' (e + 1) end'
     running_on =
-        let short = printed_most (both / word_range) (both % word_range) in
-        let n = length (printed (both / word_range) (both % word_range)) in
+        let short = printed_most r.number r.value in
+        let n = length (printed r.number r.value) in
         let fits_out : end + n ≤ length out = omega (arith, running_room) in
         record {
           reached = omega arith;
-          held = omega arith;
-          same_buffer = long ∙ g.same_buffer;
           same_out = same ∙ g.same_out;
           little = omega (arith, onward, wrote.ends);
-          rest = λ r b w. g.rest r b
-              (rw (answers-replied (take used buffer) (take (e - at) (drop at input)) (drop at input) (drop (e + 1) input) cut (taken both kept buffer') turn)
-              (wrote_then out end (printed (both / word_range) (both % word_range)) fits_out (answers (take kept buffer') (lines (drop (e + 1) input))) wrote w));
+          rest = λ last b w. g.rest last b
+              (rw (answers-replied area (take (e - at) (drop at input)) (drop at input) (drop (e + 1) input) cut r turn)
+              (wrote_then out end (printed r.number r.value) fits_out (answers r.after (lines (drop (e + 1) input))) wrote w));
         }

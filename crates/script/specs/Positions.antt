@@ -1,13 +1,11 @@
 -- What the code's answers mean, for the contracts inside the crate: between lines the code goes by positions in the input where the
--- definitions hand on the rest of it, and it keeps the store at the front of a buffer.
-use Rattle.std.specs.Prelude.{List, ℕ, ◌+◌, ◌-◌, ◌/◌, ◌%◌, ◌≤◌, ◌<◌, length, take, drop}
-use Rattle.meaning.specs.Limits.{most_word}
-use Rattle.meaning.specs.Call.{Reply}
-use Rattle.store.specs.Layout.{largest}
+-- definitions hand on the rest of it.
+use Rattle.std.specs.Prelude.{List, ℕ, ◌+◌, ◌-◌, ◌≤◌, ◌<◌, length, take, drop, Option, Some, None, Result}
+use Rattle.calls.specs.declared.Accepted.{Accepted}
+use Rattle.calls.specs.declared.Refusal.{Refusal}
+use Rattle.calls.specs.Answering.{answered}
 use Rattle.script.specs.declared.Line.{Line}
 use Rattle.script.specs.declared.Line.TheVariants as cuts
-use Rattle.script.specs.declared.Turn.{Turn}
-use Rattle.script.specs.declared.Turn.TheVariants as turns
 use Rattle.script.specs.Syntax.{Lines, end, torn, line, lines}
 use Rattle.script.specs.Output.{most_input, most_output, Heard, stopped, replied}
 
@@ -25,33 +23,14 @@ Inside at size cuts.End = Unit
 Inside at size cuts.Torn = Unit
 Inside at size (cuts.Ending e) = (at ≤ e) × (e < size)
 
--- ---- the store at the front of a buffer
+-- ---- a line
 
--- the first so many bytes of a buffer are the store's area; the buffer has room for any
-pub record Held (buffer : List ℕ) (used : ℕ) : Type 0 where
-  pub inside : used ≤ length buffer
-  pub room : largest ≤ length buffer
+-- what comes of a line, given the answer if it is a call, and the area that it left
+abbrev pub turned : Option (Result Accepted Refusal) → List ℕ → Heard
+turned None area = stopped
+turned (Some answer) area = replied (answered answer area)
 
--- one more than the largest word
-abbrev pub word_range : ℕ
-word_range = most_word + 1
-
--- number and value taken apart, with the store's area, which is the front of the buffer
-abbrev pub taken : ℕ → ℕ → List ℕ → Reply (List ℕ)
-taken both used buffer = record { number = both / word_range; value = both % word_range; after = take used buffer }
-
--- what an answer on a buffer says
-abbrev pub turned : List ℕ → Turn → Heard
-turned buffer turns.Stop = stopped
-turned buffer (turns.Reply both used) = replied (taken both used buffer)
-
--- the area that is left stands inside a buffer of that length
-abbrev pub Left : ℕ → Turn → Type 0
-Left size turns.Stop = Unit
-Left size (turns.Reply both used) = used ≤ size
-
--- a run's slices: the input is not too long, and the buffers have room for any area and any output
-pub record Roomy (input buffer out : List ℕ) : Type 0 where
+-- a run's slices: the input is not too long, and there is room for any output
+pub record Roomy (input out : List ℕ) : Type 0 where
   pub short : length input ≤ most_input
-  pub room : largest ≤ length buffer
   pub ample : most_output ≤ length out

@@ -3,14 +3,17 @@
 // whole input; what it prints is `output` of specs/Output.antt.
 #![tactic(auto)]
 
-ghost use Rattle.std.specs.Prelude.{◌≡◌, cond, [], ◌∷◌, ◌+◌, ◌≤◌, ◌<◌, leb, length, take, drop, MatchOption};
+ghost use Rattle.std.specs.Prelude.{◌≡◌, ℕ, cond, List, [], ◌∷◌, ◌+◌, ◌≤◌, ◌<◌, leb, length, take, drop, MatchOption};
 ghost use Rattle.store.specs.Layout.{size, largest};
 ghost use Rattle.store.specs.Calls.{begin_area, step_area};
+ghost use Rattle.calls.specs.Answering.{answered};
 ghost use Rattle.script.specs.Syntax.{missing, got, digits, bounded, number, field, four, as_step, command, lines};
 ghost use Rattle.script.specs.Printing.{figures, most_printed, printed, Wrote};
-ghost use Rattle.script.specs.Output.{replied, format_new, heard, answers, output, fitting};
-ghost use Rattle.script.specs.Positions.{cut_at, Inside, Held, turned, Left, Roomy};
+ghost use Rattle.script.specs.Output.{format_new, heard, answers, output, fitting};
+ghost use Rattle.script.specs.Positions.{cut_at, Inside, turned, Roomy};
 
+use calls::{Accepted, Refusal};
+use std::marker::Model;
 use store::Store;
 
 // ---- the language
@@ -33,9 +36,6 @@ const MOST_PRINTED: usize = 22;
 // Room for any output: six bytes for each byte of input, since a line that is answered has four, and one line more.
 pub const ROOM: usize = 6 * MOST_INPUT + MOST_PRINTED;
 
-// A call's result is its number times this, and its value added.
-const PACK: u64 = 4294967296;
-
 // A line: `f T N P D`, `b t op n c` or `s t`.
 #[derive(Clone, Copy)]
 enum Command {
@@ -53,11 +53,19 @@ enum Line {
     Ending(usize),
 }
 
-// What comes of a line: the run stops; or number and value of a reply, packed, and how many bytes the store then has.
-#[derive(Clone, Copy)]
-enum Turn {
-    Stop,
-    Reply(u64, usize),
+// The store of a run: the first `used` bytes of a buffer with room for the longest area, and clauses see those bytes alone.
+#[derive(Drop)]
+struct Kept {
+    buffer: [u8; Store::LONGEST],
+    used: usize,
+}
+
+impl Model for Kept {
+    ghost Value = { List ℕ };
+
+    ghost view = { λ k. take k.used k.buffer };
+
+    ghost invariant = { λ k. k.used ≤ largest };
 }
 
 // ---- reading
@@ -192,62 +200,61 @@ fn wanted(t: u32, n: u32, p: u32) -> usize
     0
 }
 
-// In each the store is the first `used` bytes of a buffer that has room for the longest.
-fn obey_format(area: &mut [u8], used: usize, t: u32, n: u32, p: u32, d: u32) -> Turn
-    requires { Held area.old used }
-    ensures result_after { turned area.new result ≡ replied (format_new (take used area.old) t n p d) }
-    ensures left { Left (length area.old) result }
-{
-    let length = wanted(t, n, p);
-    let both = calls::format(&mut area[..length], t, n, p, d);
-    if both == 0 {
-        return Turn::Reply(both, length);
+impl Kept {
+    // There is no store before the first `f` that is accepted.
+    fn none() -> Kept
+        ensures { result ≡ [] }
+    {
+        Kept {
+            buffer: [0; Store::LONGEST],
+            used: 0,
+        }
     }
-    Turn::Reply(both, used)
-}
 
-fn obey_begin(area: &mut [u8], used: usize, t: u32, op: u32, n: u32, c: u32) -> Turn
-    requires { Held area.old used }
-    ensures result_after { turned area.new result ≡ replied (begin_area (take used area.old) t op n c) }
-    ensures left { Left (length area.old) result }
-{
-    let both = calls::begin(&mut area[..used], t, op, n, c);
-    Turn::Reply(both, used)
-}
+    fn format(&mut self, t: u32, n: u32, p: u32, d: u32) -> Result<Accepted, Refusal>
+        ensures { answered result self.new ≡ format_new self.old t n p d }
+    {
+        let length = wanted(t, n, p);
+        let answer = calls::try_format(&mut self.buffer[..length], t, n, p, d);
+        if answer.is_ok() {
+            self.used = length;
+        }
+        answer
+    }
 
-fn obey_step(area: &mut [u8], used: usize, t: u32) -> Turn
-    requires { Held area.old used }
-    ensures result_after { turned area.new result ≡ replied (step_area (take used area.old) t) }
-    ensures left { Left (length area.old) result }
-{
-    let both = calls::step(&mut area[..used], t);
-    Turn::Reply(both, used)
-}
+    fn begin(&mut self, t: u32, op: u32, n: u32, c: u32) -> Result<Accepted, Refusal>
+        ensures { answered result self.new ≡ begin_area self.old t op n c }
+    {
+        calls::try_begin(&mut self.buffer[..self.used], t, op, n, c)
+    }
 
-fn obey(area: &mut [u8], used: usize, command: Option<Command>) -> Turn
-    requires { Held area.old used }
-    ensures result_after { turned area.new result ≡ heard (take used area.old) command }
-    ensures left { Left (length area.old) result }
-{
-    let Some(command) = command else {
-        return Turn::Stop;
-    };
-    match command {
-        Command::Format(t, n, p, d) => obey_format(area, used, t, n, p, d),
-        Command::Begin(t, op, n, c) => obey_begin(area, used, t, op, n, c),
-        Command::Step(t) => obey_step(area, used, t),
+    fn step(&mut self, t: u32) -> Result<Accepted, Refusal>
+        ensures { answered result self.new ≡ step_area self.old t }
+    {
+        calls::try_step(&mut self.buffer[..self.used], t)
+    }
+
+    // None where the line is no call, and the run stops.
+    fn obey(&mut self, command: Option<Command>) -> Option<Result<Accepted, Refusal>>
+        ensures { turned result self.new ≡ heard self.old command }
+    {
+        match command? {
+            Command::Format(t, n, p, d) => Some(self.format(t, n, p, d)),
+            Command::Begin(t, op, n, c) => Some(self.begin(t, op, n, c)),
+            Command::Step(t) => Some(self.step(t)),
+        }
     }
 }
 
 // ---- the run
 
 // Line after line, with no store at first.
-fn run_lines(input: &[u8], area: &mut [u8], out: &mut [u8]) -> usize
-    requires { Roomy input.now area.old out.old }
+fn run_lines(input: &[u8], out: &mut [u8]) -> usize
+    requires { Roomy input.now out.old }
     ensures { Wrote out.old 0 (answers [] (lines input.now)) result out.new }
 {
+    let mut kept = Kept::none();
     let mut at: usize = 0;
-    let mut used: usize = 0;
     let mut end: usize = 0;
     loop {
         let found = next_line(input, at);
@@ -260,11 +267,10 @@ fn run_lines(input: &[u8], area: &mut [u8], out: &mut [u8]) -> usize
             }
             Line::Ending(e) => {
                 let command = read_command(&input[at..e]);
-                let Turn::Reply(both, kept) = obey(area, used, command) else {
+                let Some(answer) = kept.obey(command) else {
                     return put_reply(out, end, FORM, 0);
                 };
-                end = put_reply(out, end, (both / PACK) as u32, (both % PACK) as u32);
-                used = kept;
+                end = put_reply(out, end, calls::number(answer), calls::value(answer));
                 at = e + 1;
             }
         }
@@ -281,6 +287,5 @@ pub fn run(input: &[u8], out: &mut [u8]) -> usize
     if MOST_INPUT < input.len() {
         return put_reply(out, 0, LONG, 0);
     }
-    let mut area = [0u8; Store::LONGEST];
-    run_lines(input, &mut area, out)
+    run_lines(input, out)
 }

@@ -59,7 +59,7 @@ pub enum Act {
 }
 
 // A thread's record: operation, line and the five registers, in the area's order.
-#[derive(Clone, Copy, Default)]
+#[derive(Clone, Copy, PartialEq, Eq, Default)]
 pub struct Thread {
     pub op: u32,
     pub line: u32,

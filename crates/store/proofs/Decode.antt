@@ -1,9 +1,10 @@
 -- What decoding a live area gives: its sizes are those of `Live`, and a test of all entries of a table is a test of the area's words.
 -- And when a table of so many entries is another one. Assumes nothing.
-use mathlib.Core.Path.{◌≡◌, ◌∙◌, sym, ap, fun_ext}
+use mathlib.Core.Path.{◌≡◌, refl, ◌∙◌, sym, ap, ap₂, fun_ext}
 use mathlib.Core.Bool.{Bool, ◌&&◌}
 use mathlib.Core.List.{List}
-use Prim.Native.Nat.{ℕ, ◌+◌, ◌*◌, ◌<◌, ◌≤◌}
+use Prim.Native.Nat.{ℕ, zero, suc, ◌+◌, ◌*◌, ◌<◌, ◌≤◌}
+use native.Mathlib.Omega.{arith}
 use lib.Dec.{leb, ltb}
 use borrow.Author.Tests.{lt-ltb, ltb-true, ltb-false}
 use Rattle.meaning.specs.Table.{below, every}
@@ -13,7 +14,6 @@ use Rattle.meaning.proofs.Base.Words.{either_way}
 use Rattle.store.specs.Layout.{lock_at, owner_at, threads_at, thread_words, map_at, locks_at, blocks_at, block_words}
 use Rattle.store.specs.Area.{word, thread_from, store_of, decode, sound_thread, in_bounds}
 use Rattle.store.specs.Live.{Live}
-use Rattle.store.proofs.Every.{every-cong}
 
 pub decode-live : {a : List ℕ} {t n p : ℕ} → Live a t n p → decode a ≡ store_of (word a) t n p
 decode-live {a} v = λ i. store_of (word a) (v.threads i) (v.numbers i) (v.blocks i)
@@ -22,6 +22,11 @@ decode-live {a} v = λ i. store_of (word a) (v.threads i) (v.numbers i) (v.block
 pub below_is : {A : Type 0} (z : A) (n : ℕ) (f g : ℕ → A) → ((k : ℕ) → k < n → f k ≡ g k) → ((k : ℕ) → n ≤ k → z ≡ g k) → below z n f ≡ g
 below_is z n f g h o =
     fun_ext λ k. either_way (ltb k n) (λ e. rw e (h k (ltb-true k n e))) (λ e. rw e (o k (ltb-false k n e)))
+
+-- tests that agree below a size hold of it alike
+every-cong : (f g : ℕ → Bool) (n : ℕ) → ((k : ℕ) → k < n → f k ≡ g k) → every n f ≡ every n g
+every-cong f g zero h = refl
+every-cong f g (suc n) h = ap₂ ◌&&◌ (every-cong f g n (λ k l. h k (omega arith))) (h n (omega arith))
 
 -- a test of a table's entries below its size is one of what the table is made of
 pub every-below : {A : Type 0} (z : A) (n : ℕ) (f : ℕ → A) (test : A → Bool) → every n (λ k. test (f k)) ≡ every n (λ k. test (below z n f k))

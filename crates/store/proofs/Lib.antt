@@ -1,5 +1,4 @@
 -- The laws that the functions' proofs and the crates above cite, a file a subject.
-pub mod Every
 pub mod LastLines
 pub mod Bytes
 pub mod Decode

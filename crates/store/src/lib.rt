@@ -2,7 +2,7 @@
 // What an area means stands in specs/Area.antt; every contract below is an equality with a definition of specs/ or of the limits.
 #![tactic(auto)]
 
-ghost use Rattle.std.specs.Prelude.{◌≡◌, ◌+◌, ◌*◌, ◌<◌, ◌≤◌, leb};
+ghost use Rattle.std.specs.Prelude.{◌≡◌, ℕ, Bool, ◌+◌, ◌*◌, ◌<◌, ◌≤◌, leb};
 ghost use Rattle.meaning.specs.Table.{every};
 ghost use Rattle.meaning.specs.Limits.{most_threads, most_numbers, most_blocks, in_limits};
 ghost use Rattle.meaning.specs.Holding.{proper as proper_of};
@@ -87,22 +87,13 @@ impl Store {
 
 // ---- words
 
-fn wide(x: u8) -> u32
-    ensures { (result ≡ x) × (result < 256) }
-{
-    x as u32
-}
-
 // Word k of the area.
 pub fn word_at(area: &[u8], k: usize) -> u32
     requires { Within area.now k }
     ensures { result ≡ word area.now k }
 {
     let i = 4 * k;
-    wide(area[i])
-        + 256 * wide(area[i + 1])
-        + 65536 * wide(area[i + 2])
-        + 16777216 * wide(area[i + 3])
+    u32::from_le_bytes([area[i], area[i + 1], area[i + 2], area[i + 3]])
 }
 
 // Word k of the area becomes v, and nothing else changes.
@@ -111,10 +102,11 @@ pub fn put_word(area: &mut [u8], k: usize, v: u32)
     ensures { area.new ≡ put_word area.old k v }
 {
     let i = 4 * k;
-    area[i] = (v % 256) as u8;
-    area[i + 1] = (v / 256 % 256) as u8;
-    area[i + 2] = (v / 65536 % 256) as u8;
-    area[i + 3] = (v / 16777216 % 256) as u8;
+    let bytes = v.to_le_bytes();
+    area[i] = bytes[0];
+    area[i + 1] = bytes[1];
+    area[i + 2] = bytes[2];
+    area[i + 3] = bytes[3];
 }
 
 // ---- where the tables stand, in words
@@ -280,14 +272,14 @@ impl Sizes {
 
 // ---- well formed
 
-// Every word of a column is at most the bound. There is no early way out, so that the loop can run over many words at a time.
-fn all_at_most(area: &[u8], c: Column, bound: u32) -> bool
-    requires { Reaches area.now c.from c.stride c.count }
-    ensures { result ≡ every c.count (λ k. leb (word area.now (c.from + c.stride * k)) bound) }
+// The test holds of every number below count. There is no early way out, so that the loop can run over many words at a time.
+fn every<F: Fn(usize) -> bool>(count: usize, test: F) -> bool
+    requires { (k : ℕ) → k < count → F.pre test k }
+    ensures { (p : ℕ → Bool) → ((k : ℕ) (r : Bool) → k < count → F.post test k r → r ≡ p k) → result ≡ every count p }
 {
     let mut all = true;
-    for k in 0..c.count {
-        all = all & (c.entry(area, k) <= bound);
+    for k in 0..count {
+        all = all & test(k);
     }
     all
 }
@@ -313,19 +305,8 @@ fn all_bits(area: &[u8], c: Column) -> u32
     bits
 }
 
-// Every word of a column is proper, looked at one by one.
-fn each_proper(area: &[u8], c: Column, t: u32) -> bool
-    requires { Reaches area.now c.from c.stride c.count × (t ≤ most_threads) }
-    ensures { result ≡ every c.count (λ k. proper_of t (word area.now (c.from + c.stride * k))) }
-{
-    let mut all = true;
-    for k in 0..c.count {
-        all = all & proper(t, c.entry(area, k));
-    }
-    all
-}
-
-// The same. It is so where the bits that all of them have are a proper word, which is quicker to see: as where only readers have them, or one writer.
+// Every word of a column is proper. It is so where the bits that all of them have are a proper word, which is quicker to see: as where only readers
+// have them, or one writer.
 fn all_proper(area: &[u8], c: Column, t: u32) -> bool
     requires { Reaches area.now c.from c.stride c.count × (t ≤ most_threads) }
     ensures { result ≡ every c.count (λ k. proper_of t (word area.now (c.from + c.stride * k))) }
@@ -333,16 +314,28 @@ fn all_proper(area: &[u8], c: Column, t: u32) -> bool
     if proper(t, all_bits(area, c)) {
         return true;
     }
-    each_proper(area, c, t)
+    every(c.count, |k| proper(t, c.entry(area, k)))
 }
 
-const LAST_LINES: [u32; 5] = [0, 16, 6, 11, 18];
+// Every word of a column is at most the bound.
+fn all_at_most(area: &[u8], c: Column, bound: u32) -> bool
+    requires { Reaches area.now c.from c.stride c.count }
+    ensures { result ≡ every c.count (λ k. leb (word area.now (c.from + c.stride * k)) bound) }
+{
+    every(c.count, |k| c.entry(area, k) <= bound)
+}
 
 // The last line of an operation, 0 for what is none.
 fn last_line(op: u32) -> u32
     ensures { result ≡ last_line op }
 {
-    if op <= 4 { LAST_LINES[op as usize] } else { 0 }
+    match op {
+        1 => 16,
+        2 => 6,
+        3 => 11,
+        4 => 18,
+        _ => 0,
+    }
 }
 
 // A thread's record is seven zeros, or in its bounds.
@@ -350,7 +343,7 @@ fn thread_sound(r: Thread, n: u32, p: u32) -> bool
     ensures { result ≡ sound_thread n p r }
 {
     if r.op == 0 {
-        return (r.line == 0) & (r.n == 0) & (r.c == 0) & (r.p == 0) & (r.q == 0) & (r.h == 0);
+        return r == Thread::default();
     }
     (r.op <= 4)
         & ((1 <= r.line) & (r.line <= last_line(r.op)))
@@ -381,11 +374,10 @@ fn threads_sound(area: &[u8], t: usize, n: u32, p: u32) -> bool
     requires { Reaches area.now (threads_at + 6) thread_words t }
     ensures { result ≡ every t (λ k. sound_thread n p (thread_from (word area.now) (threads_at + thread_words * k))) }
 {
-    let mut all = true;
-    for k in 0..t {
-        all = all & thread_sound(thread_at(area, THREADS_AT + THREAD_WORDS * k), n, p);
-    }
-    all
+    every(
+        t,
+        |k| thread_sound(thread_at(area, THREADS_AT + THREAD_WORDS * k), n, p),
+    )
 }
 
 // The words of a live area are in their bounds.

@@ -5,7 +5,6 @@
 #![tactic(auto)]
 
 ghost use Rattle.std.specs.Prelude.{◌≡◌};
-ghost use Rattle.std.specs.ControlFlow.{MatchControlFlow};
 ghost use Rattle.std.specs.Io.{ReadsAtMost};
 ghost use Rattle.sheet.specs.Adding.{add_area};
 
@@ -20,40 +19,6 @@ use store::Store;
 
 // A byte more than the longest area has, by which a longer file shows.
 const MOST_READ: usize = Store::LONGEST + 1;
-
-// What comes of an argument: the tally then, and whether more files are read.
-type Turn = ControlFlow<Tally, Tally>;
-
-// ---- standard error
-
-// What can't be written there is lost.
-fn say(to: &mut impl Write, name: &[u8], what: &[u8]) {
-    to.write_all(name).ok();
-    to.write_all(what).ok();
-}
-
-fn say_refused(to: &mut impl Write, name: &[u8], why: Refusal) {
-    say(to, name, b": refused with ");
-    write!(to, "{}", u32::from(why)).ok();
-    if why == Refusal::Full {
-        to.write_all(b" (FULL): the sheet has its 200 areas").ok();
-    }
-    to.write_all(b"; no more files are read\n").ok();
-}
-
-// The system's reason alone, of an error as it is shown, which has its code behind it.
-fn reason_of(shown: &str) -> &str {
-    shown
-        .rsplit_once(" (os error ")
-        .map_or(shown, |(reason, _)| reason)
-}
-
-fn say_why(to: &mut impl Write, name: &[u8], why: io::Error) {
-    let shown = InlineText::<300>::of(why);
-    let reason = reason_of(shown.as_str());
-    say(to, name, b": ");
-    say(to, reason.as_bytes(), b"\n");
-}
 
 // ---- a file
 
@@ -86,73 +51,119 @@ fn read_file<R: Files>(rt: &R, name: &[u8], area: &mut [u8]) -> io::Result<usize
     read_area(&mut file, area)
 }
 
-// Adds what was read of a file, and says if it was skipped or refused.
-fn add_bytes(to: &mut impl Write, tally: Tally, name: &[u8], area: &[u8]) -> Turn
-    ensures { MatchControlFlow result
-        (λ after. after ≡ (add_area tally area.now).after)
-        (λ after. after ≡ (add_area tally area.now).after) }
-{
-    match sheet::added(tally, area) {
-        Ok(after) => {
-            if Store::LONGEST < area.len() {
-                say(to, name, b": too long for an area, skipped\n");
-            } else if tally.skipped < after.skipped {
-                say(to, name, b": malformed, skipped\n");
+// The system's reason alone, of an error as it is shown, which has its code behind it.
+fn reason_of(shown: &str) -> &str {
+    shown
+        .rsplit_once(" (os error ")
+        .map_or(shown, |(reason, _)| reason)
+}
+
+// ---- the program
+
+// What a run has: the system, standard error, and the tally so far. An argument says with `Break` that no more files are read.
+#[derive(Drop)]
+struct Run<'a, R, W> {
+    rt: &'a R,
+    err: W,
+    tally: Tally,
+}
+
+impl<R: Env + Files, W: Write + Drop> Run<'_, R, W> {
+    // What can't be written to standard error is lost.
+    fn say(&mut self, name: &[u8], what: &[u8])
+        ensures { self.new.tally ≡ self.old.tally }
+    {
+        self.err.write_all(name).ok();
+        self.err.write_all(what).ok();
+    }
+
+    fn say_refused(&mut self, name: &[u8], why: Refusal)
+        ensures { self.new.tally ≡ self.old.tally }
+    {
+        self.say(name, b": refused with ");
+        write!(self.err, "{}", u32::from(why)).ok();
+        if why == Refusal::Full {
+            self.err
+                .write_all(b" (FULL): the sheet has its 200 areas")
+                .ok();
+        }
+        self.err.write_all(b"; no more files are read\n").ok();
+    }
+
+    fn say_why(&mut self, name: &[u8], why: io::Error) {
+        let shown = InlineText::<300>::of(why);
+        let reason = reason_of(shown.as_str());
+        self.say(name, b": ");
+        self.say(reason.as_bytes(), b"\n");
+    }
+
+    // Adds what was read of a file, and says if it was skipped or refused.
+    fn add_bytes(&mut self, name: &[u8], area: &[u8]) -> ControlFlow<()>
+        ensures { self.new.tally ≡ (add_area self.old.tally area.now).after }
+    {
+        let before = self.tally;
+        match sheet::added(before, area) {
+            Ok(after) => {
+                self.tally = after;
+                if Store::LONGEST < area.len() {
+                    self.say(name, b": too long for an area, skipped\n");
+                } else if before.skipped < after.skipped {
+                    self.say(name, b": malformed, skipped\n");
+                }
+                ControlFlow::Continue(())
             }
-            Turn::Continue(after)
-        }
-        Err(why) => {
-            say_refused(to, name, why);
-            Turn::Break(tally)
-        }
-    }
-}
-
-// Adds a file, if it can be read.
-fn add_file<R: Files>(rt: &R, to: &mut impl Write, tally: Tally, name: &[u8]) -> Turn {
-    let mut area = [0u8; MOST_READ];
-    match read_file(rt, name, &mut area) {
-        Ok(count) => add_bytes(to, tally, name, &area[..count]),
-        Err(why) => {
-            say_why(to, name, why);
-            Turn::Continue(tally)
+            Err(why) => {
+                self.say_refused(name, why);
+                ControlFlow::Break(())
+            }
         }
     }
-}
 
-// ---- the arguments
-
-// An argument is a file's name. One that is too long for any name is shown by its first bytes. After the last argument no more files are read.
-fn add_argument<R: Env + Files>(rt: &R, to: &mut impl Write, tally: Tally, i: usize) -> Turn {
-    let mut name = [0u8; 4096];
-    match rt.arg(i, &mut name) {
-        Ok(length) => add_file(rt, to, tally, &name[..length]),
-        Err(FillError::TooLong) => {
-            say(to, &name, b": File name too long\n");
-            Turn::Continue(tally)
-        }
-        Err(FillError::NotPresent) => Turn::Break(tally),
-    }
-}
-
-// All arguments in turn. Argument 0 is the program's own name.
-fn add_arguments<R: Env + Files>(rt: &R, to: &mut impl Write) -> Tally {
-    let mut tally = sheet::zeros();
-    for i in 1..usize::MAX {
-        match add_argument(rt, to, tally, i) {
-            Turn::Continue(after) => tally = after,
-            Turn::Break(after) => return after,
+    // Adds a file, if it can be read.
+    fn add_file(&mut self, name: &[u8]) -> ControlFlow<()> {
+        let mut area = [0u8; MOST_READ];
+        match read_file(self.rt, name, &mut area) {
+            Ok(count) => self.add_bytes(name, &area[..count]),
+            Err(why) => {
+                self.say_why(name, why);
+                ControlFlow::Continue(())
+            }
         }
     }
-    tally
+
+    // An argument is a file's name. One that is too long for any name is shown by its first bytes. After the last argument no more files are read.
+    fn add_argument(&mut self, i: usize) -> ControlFlow<()> {
+        let mut name = [0u8; 4096];
+        match self.rt.arg(i, &mut name) {
+            Ok(length) => self.add_file(&name[..length]),
+            Err(FillError::TooLong) => {
+                self.say(&name, b": File name too long\n");
+                ControlFlow::Continue(())
+            }
+            Err(FillError::NotPresent) => ControlFlow::Break(()),
+        }
+    }
+
+    // All arguments in turn. Argument 0 is the program's own name. `args` of std would give no name at all where one of them is no UTF-8.
+    fn add_arguments(&mut self) {
+        for i in 1..usize::MAX {
+            if self.add_argument(i).is_break() {
+                break;
+            }
+        }
+    }
 }
 
 fn main(rt: HostRuntime) {
-    let mut err = rt.stderr();
-    let tally = add_arguments(&rt, &mut err);
+    let mut run = Run {
+        rt: &rt,
+        err: rt.stderr(),
+        tally: sheet::zeros(),
+    };
+    run.add_arguments();
     let mut out = [0u8; page::ROOM];
-    let end = page::put_page(&mut out, tally);
+    let end = page::put_page(&mut out, run.tally);
     if let Err(why) = rt.stdout().write_all(&out[..end]) {
-        say_why(&mut err, b"standard output", why);
+        run.say_why(b"standard output", why);
     }
 }

@@ -1,4 +1,4 @@
--- What must be believed of the wear sheet, in a reader's order. Room is for contracts between our own functions, and Samples computes.
+-- What must be believed of the wear sheet, in a reader's order. Refusal and Room are for contracts between our own functions, and Samples computes.
 pub mod Sheet
 pub mod Adding
 pub mod Refusal

@@ -63,7 +63,7 @@ impl From<Refusal> for u32 {
 
 // ---- adding
 
-// The least wear, and the most, after a block more.
+// The least wear, and the most, after a block more. One function with the choice as a closure would need clauses on the closure.
 fn lesser(seen: u32, least: u32, wear: u32) -> u32
     ensures { result ≡ lesser seen least wear }
 {

@@ -11,7 +11,7 @@ use lib.Dec.{ltb}
 use lib.ListN.{length}
 use Rattle.std.proofs.Common.{Result, Ok, Err}
 use Rattle.std.proofs.lemmas.Bool.{lt-ltb, le-ltb, ltb-true, ltb-false}
-use Rattle.meaning.specs.Numbers.{WENT}
+use Rattle.meaning.specs.Numbers.{WENT, packed}
 use Rattle.meaning.specs.Limits.{most_blocks, most_word}
 use Rattle.meaning.specs.Store.{Store}
 use Rattle.meaning.proofs.Base.Words.{either_way}
@@ -225,7 +225,13 @@ module _ (t : Tally) (a : List ℕ) where
   pub add_determined : {r r' : ℕ} {x x' : Tally} → AddMeans t a r x → AddMeans t a r' x' → (r ≡ r') × (x ≡ x')
   add_determined one two = (one.0 ∙ sym two.0, one.1 ∙ sym two.1)
 
-  -- and of the code's results one alone has the reply
+  -- the code's result, packed, is what C gets
+  pub added-means :
+      (r : Result Tally Refusal) → replied t r ≡ add_area t a →
+      AddMeans t a (packed (replied t r).number (replied t r).value) (replied t r).after
+  added-means r e = (ap (λ x. packed x.number x.value) e, ap (λ x. x.after) e)
+
+  -- and one result alone has the reply
   pub added_determined : (r r' : Result Tally Refusal) → replied t r ≡ add_area t a → replied t r' ≡ add_area t a → r ≡ r'
   added_determined r r' one two = replied-same t r r' (one ∙ sym two)
 

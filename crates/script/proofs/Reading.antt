@@ -21,18 +21,18 @@ digits-over v (c ∷ cs) h = go (is_digit c) (digits-over (10 * v + (c - ZERO)) 
     go false more = rw (lt-leb v most_word h)
 
 -- a digit more makes the value too large
-pub digits-large :
+pub digits_large :
     (v : ℕ) (cs : List ℕ) → 0 < length cs → ZERO ≤ get_or cs 0 0 → get_or cs 0 0 ≤ NINE → most_word < 10 * v + (get_or cs 0 0 - ZERO)
     → bounded (digits v cs) ≡ missing
-digits-large v [] some low high large = absurd (omega arith)
-digits-large v (c ∷ cs) some low high large = rw (le-leb _ _ low, le-leb _ _ high) (digits-over _ cs large)
+digits_large v [] some low high large = absurd (omega arith)
+digits_large v (c ∷ cs) some low high large = rw (le-leb _ _ low, le-leb _ _ high) (digits-over _ cs large)
 
 -- where no digit stands at the front, the digits end
-pub digits-end :
+pub digits_end :
     (v : ℕ) (cs : List ℕ) → v ≤ most_word → (0 < length cs → ZERO ≤ get_or cs 0 0 → get_or cs 0 0 ≤ NINE → ⊥)
     → bounded (digits v cs) ≡ got v cs
-digits-end v [] small none = rw (le-leb v most_word small)
-digits-end v (c ∷ cs) small none = go (leb ZERO c) (leb c NINE) refl refl
+digits_end v [] small none = rw (le-leb v most_word small)
+digits_end v (c ∷ cs) small none = go (leb ZERO c) (leb c NINE) refl refl
   where
     go : (low high : Bool) → leb ZERO c ≡ low → leb c NINE ≡ high
         → bounded (digits v (c ∷ cs)) ≡ got v (c ∷ cs)

@@ -5,7 +5,6 @@ use mathlib.Core.Path.{◌≡◌, ◌∙◌, refl, ap}
 use mathlib.Core.List.{List, [], ◌∷◌, ◌++◌}
 use Prim.Native.Nat.{ℕ, ◌+◌, ◌-◌, ◌*◌, ◌≤◌, ◌<◌}
 use native.Mathlib.Omega.{arith}
-use borrow.Author.Tests.{le-leb, lt-leb}
 use lib.Dec.{eqb}
 use lib.ListN.{length, take, drop, length-take, length-drop}
 use Rattle.meaning.specs.Call.{Reply}
@@ -13,7 +12,7 @@ use Rattle.std.specs.Prelude.{Option, None}
 use Rattle.script.specs.declared.Command.{Command}
 use Rattle.script.specs.Syntax.{BLANK, missing, field, lettered, command, line, lines}
 use Rattle.script.specs.Printing.{printed, most_printed, Wrote}
-use Rattle.script.specs.Output.{FORM, LONG, most_input, most_output, stopped, replied, heard, answers, output, fitting}
+use Rattle.script.specs.Output.{stopped, replied, heard, answers}
 use Rattle.script.specs.Positions.{Roomy}
 use Rattle.script.proofs.Writing.{wrote_then, printed_most}
 
@@ -45,24 +44,7 @@ module _ (a l : List ℕ) (s rest : List ℕ) (cut : line l (lines rest) ≡ lin
       → answers a (lines s) ≡ printed r.number r.value ++ answers r.after (lines rest)
   answers-replied r e = rw (← cut, ← e)
 
-  pub answers-stopped : stopped ≡ heard a (command l) → answers a (lines s) ≡ printed FORM 0
-  answers-stopped e = rw (← cut, ← e)
-
 -- ---- the whole
-
-pub output-long : (input : List ℕ) → most_input < length input → output input ≡ printed LONG 0
-unfolding output
-output-long input h = rw (lt-leb _ _ h)
-
-pub output-lines : (input : List ℕ) → length input ≤ most_input → output input ≡ answers [] (lines input)
-unfolding output
-output-lines input h = rw (le-leb _ _ h)
-
-pub fitting-short : (out bs : List ℕ) → length out < most_output → fitting out bs ≡ []
-fitting-short out bs h = rw (lt-leb _ _ h)
-
-pub fitting-ample : (out bs : List ℕ) → most_output ≤ length out → fitting out bs ≡ bs
-fitting-ample out bs h = rw (le-leb _ _ h)
 
 -- ---- the loop
 
@@ -72,9 +54,6 @@ pub record RunningAt (input out₀ area out : List ℕ) (at end : ℕ) : Type 0 
   pub same_out : length out ≡ length out₀
   pub little : end ≤ 6 * at
   pub rest : (r : ℕ) (b : List ℕ) → Wrote out end (answers area (lines (drop at input))) r b → Wrote out₀ 0 (answers [] (lines input)) r b
-
-pub running_start : (input out : List ℕ) → RunningAt input out [] out 0 0
-running_start input out = record { reached = omega arith; same_out = refl; little = omega arith; rest = λ r b w. w }
 
 module _ {input out₀ area out : List ℕ} {at end : ℕ} (g : RunningAt input out₀ area out at end) (ready : Roomy input out₀) where
   -- there is room for one line more

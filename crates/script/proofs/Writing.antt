@@ -4,11 +4,10 @@ use mathlib.Core.Path.{◌≡◌, ◌∙◌, refl, sym, ap}
 use mathlib.Core.List.{List, [], ◌∷◌, ◌++◌, append_assoc}
 use Prim.Native.Nat.{ℕ, zero, suc, ◌+◌, ◌-◌, ◌≤◌, ◌<◌, ◌/◌, ◌%◌, ◌^◌}
 use native.Mathlib.Nat.{add-zero}
-use native.Mathlib.Numerals.{add-one}
 use native.Mathlib.Omega.{arith}
 use lib.Dec.{ltb}
-use lib.ListN.{length, take, drop, set, take-append-drop, length-append, drop_of_length-le}
-use lib.Seq.{length-take-le, set_split, take_at, drop_at, drop-drop}
+use lib.ListN.{length, take, drop, take-append-drop, length-append, drop_of_length-le}
+use lib.Seq.{length-take-le, take_at, drop_at, drop-drop}
 use Rattle.std.specs.Fmt.{digits}
 use Rattle.std.proofs.lemmas.Fmt.{decimal_digit, decimal_step}
 use Rattle.std.proofs.lemmas.List.{drop-append-le}
@@ -20,9 +19,6 @@ use Rattle.script.specs.Printing.{most_figures, figures, printed, most_printed, 
 
 pub wrote_nothing : (b : List ℕ) (at : ℕ) → Wrote b at [] at b
 wrote_nothing b at = record { ends = sym (add-zero at); holds = rw (add-zero, take-append-drop) }
-
-pub wrote-byte : (b : List ℕ) (at v : ℕ) → at < length b → Wrote b at (v ∷ []) (at + 1) (set b at v)
-wrote-byte b at v h = record { ends = refl; holds = rw (add-one) (set_split b at v h) }
 
 -- a copy into the part of that length
 pub wrote_copy :
@@ -36,11 +32,6 @@ wrote_copy b at bs from copy e w =
 pub wrote_determined :
     {b bs b' b'' : List ℕ} {at e f : ℕ} → Wrote b at bs e b' → Wrote b at bs f b'' → (e ≡ f) × (b' ≡ b'')
 wrote_determined one two = (one.ends ∙ sym two.ends, one.holds ∙ sym two.holds)
-
--- what was written ends inside the buffer
-pub wrote-inside : {b bs b' : List ℕ} {at e : ℕ} → Wrote b at bs e b' → at ≤ length b → e ≤ length b'
-wrote-inside {b} {bs} {b'} {at} w h =
-    rw (w.ends, w.holds, length-append, length-append, length-take-le at b h) (omega arith)
 
 module _ (b : List ℕ) (at : ℕ) (xs : List ℕ) (fits : at + length xs ≤ length b) where
   -- what was written, with what stands before it
@@ -66,19 +57,7 @@ module _ (b : List ℕ) (at : ℕ) (xs : List ℕ) (fits : at + length xs ≤ le
 
 -- ---- the digits of a number
 
-pub figures-none : (k v : ℕ) → k ≡ 0 → figures k v ≡ []
-unfolding figures
-figures-none zero v h = refl
-figures-none (suc k) v h = absurd (omega arith)
-
--- the last digit stands after the others
-pub figures-some :
-    (k v : ℕ) → (k ≡ 0 → ⊥) → figures k v ≡ cond (ltb v 10) [] (figures (k - 1) (v / 10)) ++ ((ZERO + v % 10) ∷ [])
-unfolding figures
-figures-some zero v h = absurd (h refl)
-figures-some (suc k) v h = let e : suc k - 1 ≡ k = omega arith in rw e
-
--- they are the last digits of what std writes
+-- the last digits of what std writes
 pub figures-last : (k v : ℕ) → v < 2 ^ 64 → figures k v ≡ drop (length (digits 10 false v) - k) (digits 10 false v)
 unfolding figures
 figures-last zero v h = sym (drop_of_length-le (digits 10 false v) (omega arith))
@@ -98,14 +77,14 @@ figures-last (suc k) v h = each (ltb v 10) refl (figures-last k (v / 10) (omega 
         rw (decimal_step v (ltb-false v 10 e) h, length-append, n, drop-append-le (length ds - k) ds ((48 + v % 10) ∷ []) fits, more)
 
 pub figures_most : (k v : ℕ) → length (figures k v) ≤ k
-figures_most zero v = rw (figures-none 0 v refl) (omega arith)
-figures_most (suc k) v =
-    let e : suc k - 1 ≡ k = omega arith in
-    rw (figures-some (suc k) v (λ h. omega arith), e, length-append) (more (ltb v 10) (figures_most k (v / 10)))
+unfolding figures
+figures_most zero v = omega arith
+figures_most (suc k) v = more (ltb v 10) (figures_most k (v / 10))
   where
-    more : (small : Bool) → length (figures k (v / 10)) ≤ k → length (cond small [] (figures k (v / 10))) + 1 ≤ suc k
+    more : (small : Bool) → length (figures k (v / 10)) ≤ k
+        → length (cond small [] (figures k (v / 10)) ++ ((ZERO + v % 10) ∷ [])) ≤ suc k
     more true h = omega arith
-    more false h = omega arith
+    more false h = rw length-append (omega arith)
 
 -- a printed line is short
 pub printed_most : (number value : ℕ) → length (printed number value) ≤ most_printed

@@ -73,6 +73,7 @@ impl Model for Kept {
 // Each function reads from the front of a line and hands on what it has not read.
 
 // The digits at the front, after those whose value is `first`.
+#[tactic(auto, using(crate::proofs::Reading::digits_large, crate::proofs::Reading::digits_end))]
 fn read_digits(first: u32, line: &[u8]) -> Option<(u32, &[u8])>
     ensures { MatchOption result (bounded (digits first line.now) ≡ missing) (λ p. bounded (digits first line.now) ≡ got p.0 p.1.now) }
 {
@@ -175,6 +176,7 @@ pub fn put_figures(out: &mut [u8], at: usize, most: u32, value: u64) -> usize
 }
 
 // A number and a value, on a line.
+#[tactic(auto, using(crate::proofs::Writing::figures_most))]
 fn put_reply(out: &mut [u8], at: usize, number: u32, value: u32) -> usize
     requires { at + most_printed ≤ length out.old }
     ensures { Wrote out.old at (printed number value) result out.new }
@@ -278,6 +280,7 @@ fn run_lines(input: &[u8], out: &mut [u8]) -> usize
 }
 
 // What is printed for a whole input, at the start of `out`; its length comes back. Where `out` has no room for any output, nothing is.
+#[tactic(auto, unfolding(crate::specs::Output::output))]
 pub fn run(input: &[u8], out: &mut [u8]) -> usize
     ensures { Wrote out.old 0 (fitting out.old (output input.now)) result out.new }
 {

@@ -5,34 +5,6 @@ use Rattle.script.specs.Printing.{most_figures, decimal}
 use Rattle.script.proofs.Writing.{wrote_then, figures_most}
 use Rattle.script.proofs.put_reply.Goals as goal
 
-pub put_byte-at2-requires : goal.put_byte-at2-requires
-put_byte-at2-requires c =
-    omega
-    (arith, figures_most most_figures c.args.number, c.put_figures-at1.ensures.ends, c.put_figures-at1.auto.out, c.requires)
-
-pub put_figures-at3-requires : goal.put_figures-at3-requires
-put_figures-at3-requires c =
-    let short = figures_most most_figures c.args.number in
-    omega
-    (arith, short, c.put_figures-at1.ensures.ends, c.put_byte-at2.ensures.ends, c.put_figures-at1.auto.out, c.put_byte-at2.auto.out, c.requires)
-
-pub put_byte-requires : goal.put_byte-requires
-put_byte-requires c =
-    let short = figures_most most_figures c.args.number in
-    let short₂ = figures_most most_figures c.args.value in
-    omega (
-      arith,
-      short,
-      short₂,
-      c.put_figures-at1.ensures.ends,
-      c.put_byte-at2.ensures.ends,
-      c.put_figures-at3.ensures.ends,
-      c.put_figures-at1.auto.out,
-      c.put_byte-at2.auto.out,
-      c.put_figures-at3.auto.out,
-      c.requires,
-    )
-
 pub returns : goal.returns
 returns c =
     let x = c.args in

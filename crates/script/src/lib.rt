@@ -80,7 +80,7 @@ fn read_digits(first: u32, line: &[u8]) -> Option<(u32, &[u8])>
     let mut value = first;
     let mut rest = line;
     while let [digit @ b'0'..=b'9', others @ ..] = rest {
-        value = value.checked_mul(10)?.checked_add((digit - b'0') as u32)?;
+        value = value.checked_mul(10)?.checked_add(u32::from(digit - b'0'))?;
         rest = others;
     }
     Some((value, rest))
@@ -92,7 +92,7 @@ fn read_number(line: &[u8]) -> Option<(u32, &[u8])>
 {
     match line {
         [b'0', rest @ ..] => Some((0, rest)),
-        [digit @ b'0'..=b'9', rest @ ..] => read_digits((digit - b'0') as u32, rest),
+        [digit @ b'0'..=b'9', rest @ ..] => read_digits(u32::from(digit - b'0'), rest),
         _ => None,
     }
 }
@@ -152,7 +152,9 @@ fn next_line(input: &[u8], at: usize) -> Line
 
 // ---- printing
 
-// Each function that writes puts its bytes at a place, and the place after them comes back.
+// Each function that writes puts its bytes at a place, and the place after them comes back. `put_byte`, `put_figures` and `run` are public in this form
+// (docs/PUBLIC.md), so a struct of buffer and place would stand beside it for `put_reply` alone.
+
 pub fn put_byte(out: &mut [u8], at: usize, b: u8) -> usize
     requires { at < length out.old }
     ensures { Wrote out.old at (b ∷ []) result out.new }
@@ -181,9 +183,9 @@ fn put_reply(out: &mut [u8], at: usize, number: u32, value: u32) -> usize
     requires { at + most_printed ≤ length out.old }
     ensures { Wrote out.old at (printed number value) result out.new }
 {
-    let at1 = put_figures(out, at, FIGURES, number as u64);
+    let at1 = put_figures(out, at, FIGURES, u64::from(number));
     let at2 = put_byte(out, at1, b' ');
-    let at3 = put_figures(out, at2, FIGURES, value as u64);
+    let at3 = put_figures(out, at2, FIGURES, u64::from(value));
     put_byte(out, at3, b'\n')
 }
 
@@ -196,10 +198,7 @@ fn wanted(t: u32, n: u32, p: u32) -> usize
     let numbers = n as usize;
     let map_at = store::THREADS_AT + store::THREAD_WORDS * t as usize;
     let length = 4 * (map_at + numbers + numbers + store::BLOCK_WORDS * p as usize);
-    if length <= Store::LONGEST {
-        return length;
-    }
-    0
+    if length <= Store::LONGEST { length } else { 0 }
 }
 
 impl Kept {

@@ -84,7 +84,7 @@ fn pack(answer: Result<Accepted, Refusal>) -> u64
 
 // ---- what begin writes
 
-// The operations, each with its number in an area.
+// The operations, each with the number that it has in an area. A record's `op` is that word.
 #[derive(Clone, Copy, PartialEq, Eq)]
 enum Operation {
     Write = 1,

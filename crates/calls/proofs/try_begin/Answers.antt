@@ -1,7 +1,6 @@
 -- The record that begin writes.
 use Rattle.std.proofs.Common.{◌≡◌, true, ◌||◌, ltb, nat_eq, rules}
 use Rattle.meaning.specs.Programs.{LEVEL}
-use Rattle.machine.proofs.Inside.{nowhere}
 use Rattle.calls.specs.Answering.{operation_number}
 use Rattle.calls.proofs.try_begin.Goals as goal
 use Rattle.calls.proofs.try_begin.Goals.{After-begun, else-ne-via-then-ne+else-o-n, else-ne-via-else-ne}
@@ -13,11 +12,6 @@ numbered c =
       | else-ne-via-then-ne+else-o-n w ↦ search rules
       | else-ne-via-else-ne w ↦ search rules
     ]
-
-pub settle-requires : goal.settle-requires
-settle-requires c =
-    let is = c.in_ok-o.ensures in
-    (is.live, rw is.index is.below, rw c.nothing.ensures (nowhere _ _ _))
 
 pub returns : goal.returns
 returns c =

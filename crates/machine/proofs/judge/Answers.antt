@@ -1,7 +1,7 @@
 -- The working store, filled with zeros and then from the area, is the decoded one, and `judge_act` looks at it.
 use Rattle.std.proofs.Common.{refl, ap, arith}
 use Rattle.meaning.specs.Limits.{most_numbers}
-use Rattle.store.specs.Live.{view}
+use Rattle.store.specs.Live.{locks_column, view}
 use Rattle.store.specs.declared.Store.{Store as WorkingStore}
 use Rattle.store.proofs.Filling.{fills, Loaded, view-loaded}
 use Rattle.machine.proofs.Registers.{near-sees, perform_same}
@@ -9,7 +9,8 @@ use Rattle.machine.proofs.judge.Goals as goal
 
 pub read_column-requires-7 : goal.read_column-requires-7
 read_column-requires-7 c =
-    rw c.locks.ensures (fills c.requires.0 _ 1 c.args.z.n most_numbers (ap (λ s. s.locks) c.fresh-s.ensures) c.requires.0.few.1 (omega arith) (λ k h. omega arith))
+    rw c.locks.ensures
+    (fills c.requires.0 (locks_column c.args.z.t c.args.z.n) most_numbers (ap (λ s. s.locks) c.fresh-s.ensures) c.requires.0.few.1 (omega arith) (λ k h. omega arith))
 
 pub returns : goal.returns
 returns c =

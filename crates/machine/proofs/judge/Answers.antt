@@ -1,16 +1,40 @@
 -- The working store, filled with zeros and then from the area, is the decoded one, and `judge_act` looks at it.
-use Rattle.std.proofs.Common.{refl, ap, arith}
-use Rattle.meaning.specs.Limits.{most_numbers}
-use Rattle.store.specs.Live.{locks_column, view}
+use Rattle.std.proofs.Common.{refl, ap, arith, ◌*◌}
+use Rattle.meaning.specs.Limits.{most_threads, most_numbers, most_blocks}
+use Rattle.store.specs.Layout.{thread_words}
+use Rattle.store.specs.Live.{view}
 use Rattle.store.specs.declared.Store.{Store as WorkingStore}
 use Rattle.store.proofs.Filling.{fills, Loaded, view-loaded}
 use Rattle.machine.proofs.Registers.{near-sees, perform_same}
 use Rattle.machine.proofs.judge.Goals as goal
 
+pub read_column-requires : goal.read_column-requires
+read_column-requires c =
+    rw c.header.ensures (fills c.requires.0 _ most_blocks (ap (λ s. s.header) c.fresh-s.ensures) c.requires.0.few.2 (omega arith) (λ k h. omega arith))
+
+pub read_column-requires-2 : goal.read_column-requires-2
+read_column-requires-2 c =
+    rw c.content.ensures (fills c.requires.0 _ most_blocks (ap (λ s. s.content) c.fresh-s.ensures) c.requires.0.few.2 (omega arith) (λ k h. omega arith))
+
+pub read_column-requires-3 : goal.read_column-requires-3
+read_column-requires-3 c =
+    rw c.wear.ensures (fills c.requires.0 _ most_blocks (ap (λ s. s.wear) c.fresh-s.ensures) c.requires.0.few.2 (omega arith) (λ k h. omega arith))
+
+pub read_column-requires-4 : goal.read_column-requires-4
+read_column-requires-4 c =
+    rw c.own.ensures (fills c.requires.0 _ most_blocks (ap (λ s. s.own) c.fresh-s.ensures) c.requires.0.few.2 (omega arith) (λ k h. omega arith))
+
+pub read_column-requires-5 : goal.read_column-requires-5
+read_column-requires-5 c =
+    rw c.threads.ensures (fills c.requires.0 _ (thread_words * most_threads) (ap (λ s. s.threads) c.fresh-s.ensures) (omega arith) (omega arith) (λ k h. omega arith))
+
+pub read_column-requires-6 : goal.read_column-requires-6
+read_column-requires-6 c =
+    rw c.map.ensures (fills c.requires.0 _ most_numbers (ap (λ s. s.map) c.fresh-s.ensures) c.requires.0.few.1 (omega arith) (λ k h. omega arith))
+
 pub read_column-requires-7 : goal.read_column-requires-7
 read_column-requires-7 c =
-    rw c.locks.ensures
-    (fills c.requires.0 (locks_column c.args.z.t c.args.z.n) most_numbers (ap (λ s. s.locks) c.fresh-s.ensures) c.requires.0.few.1 (omega arith) (λ k h. omega arith))
+    rw c.locks.ensures (fills c.requires.0 _ most_numbers (ap (λ s. s.locks) c.fresh-s.ensures) c.requires.0.few.1 (omega arith) (λ k h. omega arith))
 
 pub returns : goal.returns
 returns c =

@@ -1,22 +1,14 @@
 -- What `proper` returns is `proper_of` of its arguments: the bound of sets is a power of two, and a writer's word is at most the last writer's.
-use mathlib.Core.Path.{◌≡◌, sym, ◌∙◌, ap}
+use mathlib.Core.Path.{◌≡◌}
 use mathlib.Core.Bool.{◌&&◌}
-use Prim.Native.Nat.{ℕ, ◌+◌, ◌*◌, ◌-◌, ◌/◌, ◌%◌, ◌^◌, ◌≤◌}
+use Prim.Native.Nat.{ℕ, ◌*◌, ◌/◌, ◌%◌}
 use native.Mathlib.Omega.{arith}
 use lib.Dec.{eqb, leb}
-use lib.Pow.{pow-add, shl-shr}
 use borrow.Author.Tests.{eqb-true, leb-true, leb-false, le-leb, lt-leb}
-use Rattle.meaning.specs.Limits.{most_threads}
 use Rattle.meaning.specs.Holding.{sets}
 use Rattle.meaning.proofs.Base.Words.{either_way}
+use Rattle.std.proofs.lemmas.Nat.{one_shl}
 use Rattle.store.proofs.proper.Goals as goal
-
--- the first number that is no set
-first-none : (t : ℕ) → t ≤ most_threads → sets / 2 ^ (most_threads - t) ≡ 2 ^ t
-first-none t few =
-    let whole : t + (most_threads - t) ≡ most_threads = omega arith in
-    let e : sets ≡ 2 ^ t * 2 ^ (most_threads - t) = ap (λ k. 2 ^ k) (sym whole) ∙ pow-add 2 t (most_threads - t) in
-    ap (λ x. x / 2 ^ (most_threads - t)) e ∙ shl-shr (2 ^ t) (most_threads - t)
 
 -- without members the word is at most that of the last writer where its writer is at most that one
 writers : (t w : ℕ) → eqb (w % sets) 0 && leb w (sets * t) ≡ eqb (w % sets) 0 && leb (w / sets) t
@@ -30,4 +22,4 @@ writers t w =
     (λ x. rw x)
 
 pub returns : goal.returns
-returns c = rw (first-none c.args.t c.requires, writers c.args.t c.args.w)
+returns c = rw (one_shl c.args.t 32 (omega arith), writers c.args.t c.args.w)

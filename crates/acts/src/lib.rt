@@ -12,7 +12,7 @@ ghost use Rattle.meaning.specs.Step.{goto as goto_of, onward as onward_of, set_n
 use meaning::Pass::Leave;
 use meaning::{Act, Answer, Effect, Kind, Pass, Reg, SETS, Thread, Verdict};
 
-// ---- document 01, "The lines"
+// ---- document 01, "The lines". Statics, since an array that is a constant is made on the stack at each step, some 90 ns.
 
 static WRITING: [Act; 16] = [
     Act::TakeH, // W1
@@ -77,7 +77,7 @@ static LEVELLING: [Act; 18] = [
     Act::FinishH(Answer::Moved), // L18
 ];
 
-// The act at a line of an operation.
+// The act at a line of an operation. An operation is a number here, as in a thread's record and in specs/Programs.antt.
 pub fn act_at(op: u32, line: u32) -> Act
     requires { (op ≤ 4) × (0 < line) × (line ≤ last_line op) }
     ensures { result ≡ act_at op line }

@@ -1,5 +1,4 @@
 -- The laws that the machine's proofs cite.
 pub mod Search
-pub mod Registers
 pub mod Storing
 pub mod Inside

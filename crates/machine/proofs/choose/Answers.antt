@@ -1,12 +1,6 @@
 -- What a search finds is below the bound on blocks.
-use Rattle.store.specs.Live.{table}
-use Rattle.machine.proofs.Search.{to_block_below, least_worn_below}
+use Rattle.machine.proofs.Search.{found-below}
 use Rattle.machine.proofs.choose.Goals as goal
 
-pub from_block-p-requires : goal.from_block-p-requires
-from_block-p-requires c =
-    let header = table c.args.header.now in
-    let wear = table c.args.wear.now in (
-      to_block_below header wear c.args.blocks c.in-Some.ensures c.requires.0,
-      least_worn_below header wear c.args.blocks c.least_worn-from.ensures c.requires.0,
-    )
+pub from_block-from-requires : goal.from_block-from-requires
+from_block-from-requires c = (found-below _ _ c.args.s.now.p c.in-Some.ensures c.requires.0, found-below _ _ c.args.s.now.p c.least_worn.ensures c.requires.0)

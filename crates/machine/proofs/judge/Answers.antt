@@ -1,11 +1,10 @@
 -- The working store, filled with zeros and then from the area, is the decoded one, and `judge_act` looks at it.
-use Rattle.std.proofs.Common.{refl, ap, arith, ◌*◌}
+use Rattle.std.proofs.Common.{◌∙◌, ap, arith, ◌*◌}
 use Rattle.meaning.specs.Limits.{most_threads, most_numbers, most_blocks}
+use Rattle.meaning.specs.Step.{perform}
 use Rattle.store.specs.Layout.{thread_words}
-use Rattle.store.specs.Live.{view}
 use Rattle.store.specs.declared.Store.{Store as WorkingStore}
 use Rattle.store.proofs.Filling.{fills, Loaded, view-loaded}
-use Rattle.machine.proofs.Registers.{near-sees, perform_same}
 use Rattle.machine.proofs.judge.Goals as goal
 
 pub read_column-requires : goal.read_column-requires
@@ -72,6 +71,4 @@ returns c =
       wear = rw c.wear.ensures at c.read_column-3.ensures;
       own = rw c.own.ensures at c.read_column-4.ensures;
     } in
-    perform_same a.t a.r
-    (c.judge_act.ensures (view working) (near-sees c.requires.0 loaded a.r c.words_near-near.ensures) (record { header_same = refl; wear_same = refl }))
-    c.act_at-act.ensures (view-loaded c.requires.0 loaded)
+    c.judge_act.ensures ∙ (λ i. perform (c.act_at.ensures i) (view-loaded c.requires.0 loaded i) a.t a.r)

@@ -1,17 +1,16 @@
 -- The searches among the first k blocks, one block more at a time: what their loops go by. Assumes nothing.
-use Rattle.std.specs.Prelude.{Option, Some, None}
+use Rattle.std.specs.Prelude.{Option, Some, None, unwrap_or}
 use mathlib.Core.Path.{◌≡◌, sym}
 use mathlib.Core.Bool.{Bool}
 use Prim.Native.Nat.{ℕ, zero, suc, ◌+◌, ◌<◌, ◌≤◌}
 use native.Mathlib.Numerals.{add-one}
 use native.Mathlib.Decide.{dec_lt}
 use native.Mathlib.Omega.{arith}
-use Rattle.std.proofs.Common.{Option, None, Some}
 use borrow.Author.Tests.{lt-ltb, le-ltb}
 use Rattle.meaning.specs.Choosing.{lowest_free, best}
 use Rattle.meaning.specs.Limits.{most_blocks, most_word}
 use Rattle.meaning.proofs.Base.Searches.{finds, finds-nobody, Best, best-finds}
-use Rattle.machine.specs.Judging.{place_of, Ranks}
+use Rattle.machine.specs.Judging.{Ranks}
 
 -- ---- the lowest free block
 
@@ -30,10 +29,10 @@ lowest-found header k (suc n) e h l = by_order (dec_lt k n) (λ q. lowest-found 
 
 -- what is found is a block that there may be
 pub found-below :
-    (eligible : ℕ → Bool) (beats : ℕ → ℕ → Bool) (n : ℕ) {f : Option ℕ} → f ≡ best eligible beats n → n ≤ most_blocks → place_of f < most_blocks
+    (eligible : ℕ → Bool) (beats : ℕ → ℕ → Bool) (n : ℕ) {f : Option ℕ} → f ≡ best eligible beats n → n ≤ most_blocks → unwrap_or f 0 < most_blocks
 found-below eligible beats n q h = rw q (by_found (best-finds eligible beats n))
   where
-    by_found : Best eligible beats n → place_of (best eligible beats n) < most_blocks
+    by_found : Best eligible beats n → unwrap_or (best eligible beats n) 0 < most_blocks
     by_found (finds m b f e) = rw e (omega arith)
     by_found (finds-nobody all e) = rw e (omega arith)
 

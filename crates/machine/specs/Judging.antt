@@ -17,11 +17,6 @@ pub record Ranks (gives : ℕ → Option ℕ → Type 0) (eligible : ℕ → Boo
   pub with_key : (k w : ℕ) → k < blocks → gives k (Some w) → eligible k ≡ true
   pub order : (k m w v : ℕ) → k < blocks → m < blocks → gives k (Some w) → gives m (Some v) → beats k m ≡ ltb w v
 
--- the block that was found, 0 for none
-abbrev pub place_of : Option ℕ → ℕ
-place_of None = 0
-place_of (Some m) = m
-
 -- ---- lines
 
 -- W5's verdict and L3's, where the headers are owned

@@ -3,7 +3,7 @@
 // specs/Step.antt.
 #![tactic(auto)]
 
-ghost use Rattle.std.specs.Prelude.{◌≡◌, Bool, not, ℕ, ◌<◌, ◌≤◌};
+ghost use Rattle.std.specs.Prelude.{◌≡◌, Bool, not, ℕ, ◌<◌, ◌≤◌, unwrap_or};
 ghost use Rattle.meaning.specs.declared.Kind.TheVariants.{Writer};
 ghost use Rattle.meaning.specs.Limits.{most_threads, most_numbers, most_blocks, most_word};
 ghost use Rattle.meaning.specs.Holding.{free, named as named_of, held as held_of};
@@ -12,7 +12,7 @@ ghost use Rattle.meaning.specs.Choosing.{lowest_free, best, to_block, least_worn
 ghost use Rattle.meaning.specs.Step.{heads, touches, sees, to_rewrite, perform, apply as apply_of};
 ghost use Rattle.store.specs.Area.{decode};
 ghost use Rattle.store.specs.Live.{table, Live, EntryBelow, PassBelow, with_effect, view};
-ghost use Rattle.machine.specs.Judging.{place_of, chosen_of, picked_of, Ranks, Steady, AtLine};
+ghost use Rattle.machine.specs.Judging.{chosen_of, picked_of, Ranks, Steady, AtLine};
 ghost use Rattle.machine.specs.Settling.{EffectInside, Stored, unblocked, on_blocks};
 
 use acts::{
@@ -102,19 +102,17 @@ fn least_worn(s: &Store) -> Option<u32>
 
 // "from" after the distance is looked at: "to" itself where there is nothing to move. The sum is of 64 bits, so that it doesn't wrap.
 fn from_block(s: &Store, to: u32, found: Option<u32>) -> u32
-    requires { (to < most_blocks) × (place_of found < most_blocks) }
+    requires { (to < most_blocks) × (unwrap_or found 0 < most_blocks) }
     ensures { result ≡ from_block (table s.now.wear) s.now.d to found }
 {
-    match found {
-        None => to,
-        Some(f) => {
-            let far = u64::from(s.wear[f as usize]) + u64::from(s.d);
-            if u64::from(s.wear[to as usize]) < far {
-                to
-            } else {
-                f
-            }
-        }
+    let Some(f) = found else {
+        return to;
+    };
+    let far = u64::from(s.wear[f as usize]) + u64::from(s.d);
+    if u64::from(s.wear[to as usize]) < far {
+        to
+    } else {
+        f
     }
 }
 
@@ -123,13 +121,11 @@ fn choose(s: &Store, r: Thread) -> Verdict
     requires { (s.now.p ≤ most_blocks) × (r.line < most_word) }
     ensures { result ≡ chosen_of (view s.now) r }
 {
-    match to_block(s) {
-        None => Fault,
-        Some(to) => {
-            let from = from_block(s, to, least_worn(s));
-            next(set_q(to, set_p(from, r)), nothing())
-        }
-    }
+    let Some(to) = to_block(s) else {
+        return Fault;
+    };
+    let from = from_block(s, to, least_worn(s));
+    next(set_q(to, set_p(from, r)), nothing())
 }
 
 // ---- what a line would do

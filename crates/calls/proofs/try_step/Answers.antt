@@ -18,6 +18,10 @@ settle-requires-in-Done c =
     let is = c.in_ok-o.ensures in
     (is.live, rw is.index is.below, (judges is c.if-o-eq0.false c.in-Done.ensures).inside)
 
+-- The check finds this alone. With it, another answer to a blocked step is refused by what differs, and not by a search that gives up.
+pub returns-in-Blocked : goal.returns-in-Blocked
+returns-in-Blocked c = sym (judges c.in_ok-o.ensures c.if-o-eq0.false c.in-Blocked.ensures).telling
+
 pub returns-in-Go : goal.returns-in-Go
 returns-in-Go c =
     let is = c.in_ok-o.ensures in

@@ -25,7 +25,7 @@ use meaning::Kind::{Reader, Writer};
 use meaning::Pass::{Minus, Plus};
 use meaning::Reg::{P, Q};
 use meaning::Verdict::{Done, Fault, Go};
-use meaning::{Act, Effect, Pass, Reg, Thread, Verdict};
+use meaning::{Act, Effect, Reg, Thread, Verdict};
 pub use store::Sizes;
 use store::Store;
 
@@ -280,39 +280,25 @@ pub fn judge(area: &[u8], z: Sizes, t: u32, r: Thread) -> Verdict
 // ---- doing it
 
 // What becomes of H, the headers' owner, the map and the block locks.
-fn settle_numbers(
-    area: &mut [u8],
-    z: Sizes,
-    lock: Option<u32>,
-    owner: Option<u32>,
-    map: Option<(u32, u32)>,
-    locks: Pass,
-)
-    requires { Live area.old z.t z.n z.p × EntryBelow z.n map × PassBelow z.n (decode area.old).locks locks }
-    ensures { Stored area.old area.new z.t z.n z.p (with_effect (decode area.old) (unblocked lock owner map locks)) }
+fn settle_numbers(area: &mut [u8], z: Sizes, e: Effect)
+    requires { Live area.old z.t z.n z.p × EntryBelow z.n e.map × PassBelow z.n (decode area.old).locks e.locks }
+    ensures { Stored area.old area.new z.t z.n z.p (with_effect (decode area.old) (unblocked e.lock e.owner e.map e.locks)) }
 {
-    store::set_word(area, store::LOCK_AT, lock);
-    store::set_word(area, store::OWNER_AT, owner);
-    store::set_entry(area, z.map(), map);
-    store::set_pass(area, z.locks(), locks);
+    store::set_word(area, store::LOCK_AT, e.lock);
+    store::set_word(area, store::OWNER_AT, e.owner);
+    store::set_entry(area, z.map(), e.map);
+    store::set_pass(area, z.locks(), e.locks);
 }
 
 // What becomes of the blocks.
-fn settle_blocks(
-    area: &mut [u8],
-    z: Sizes,
-    header: Option<(u32, u32)>,
-    content: Option<(u32, u32)>,
-    wear: Option<(u32, u32)>,
-    own: Pass,
-)
-    requires { Live area.old z.t z.n z.p × EntryBelow z.p header × EntryBelow z.p content × EntryBelow z.p wear × PassBelow z.p (decode area.old).own own }
-    ensures { Stored area.old area.new z.t z.n z.p (with_effect (decode area.old) (on_blocks header content wear own)) }
+fn settle_blocks(area: &mut [u8], z: Sizes, e: Effect)
+    requires { Live area.old z.t z.n z.p × EntryBelow z.p e.header × EntryBelow z.p e.content × EntryBelow z.p e.wear × PassBelow z.p (decode area.old).own e.own }
+    ensures { Stored area.old area.new z.t z.n z.p (with_effect (decode area.old) (on_blocks e.header e.content e.wear e.own)) }
 {
-    store::set_entry(area, z.header(), header);
-    store::set_entry(area, z.content(), content);
-    store::set_entry(area, z.wear(), wear);
-    store::set_pass(area, z.own(), own);
+    store::set_entry(area, z.header(), e.header);
+    store::set_entry(area, z.content(), e.content);
+    store::set_entry(area, z.wear(), e.wear);
+    store::set_pass(area, z.own(), e.own);
 }
 
 // Thread k's record and an effect.
@@ -320,15 +306,7 @@ pub fn settle(area: &mut [u8], z: Sizes, k: usize, r: Thread, e: Effect)
     requires { Live area.old z.t z.n z.p × (k < z.t) × EffectInside (decode area.old) z.n z.p e }
     ensures { Stored area.old area.new z.t z.n z.p (apply_of (decode area.old) k r e) }
 {
-    let lock = e.lock;
-    let owner = e.owner;
-    let map = e.map;
-    let locks = e.locks;
-    let header = e.header;
-    let content = e.content;
-    let wear = e.wear;
-    let own = e.own;
     store::set_thread(area, k, r);
-    settle_numbers(area, z, lock, owner, map, locks);
-    settle_blocks(area, z, header, content, wear, own);
+    settle_numbers(area, z, e);
+    settle_blocks(area, z, e);
 }

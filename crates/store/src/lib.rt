@@ -16,7 +16,8 @@ use meaning::{Pass, SETS, Thread};
 // ---- the working store and the limits
 
 // The store inside the program: 16 thread records, 256 map entries and locks, and 512 headers, contents, wear and owners of blocks. All of it
-// is zeros before an area is read in.
+// is zeros before an area is read in. That there is an array for each table, of its full length, and the sizes beside them is document 01's
+// (`zero_filled`).
 #[derive(Drop)]
 pub struct Store {
     pub t: u32,
@@ -380,7 +381,7 @@ fn threads_sound(area: &[u8], t: usize, n: u32, p: u32) -> bool
     )
 }
 
-// The words of a live area are in their bounds.
+// The words of a live area are in their bounds. The sizes come as the words that they are, since words are compared with them.
 fn words_sound(area: &[u8], t: u32, n: u32, p: u32) -> bool
     requires { Live area.now t n p }
     ensures { result ≡ in_bounds (decode area.now) }

@@ -152,8 +152,8 @@ fn next_line(input: &[u8], at: usize) -> Line
 
 // ---- printing
 
-// Each function that writes puts its bytes at a place, and the place after them comes back. `put_byte`, `put_figures` and `run` are public in this form
-// (docs/PUBLIC.md), so a struct of buffer and place would stand beside it for `put_reply` alone.
+// Each function that writes puts its bytes at a place, and the place after them comes back. `put_byte`, `put_figures` and `run` are public in
+// this form (docs/PUBLIC.md), so a struct of buffer and place would stand beside it for `put_reply` alone.
 
 pub fn put_byte(out: &mut [u8], at: usize, b: u8) -> usize
     requires { at < length out.old }

@@ -1,56 +1,64 @@
--- Laws of the lines of an input: what `lines` comes to at the first newline, or with none. Assumes nothing.
-use mathlib.Core.Bool.{false}
-use mathlib.Core.Path.{◌≡◌, refl, sym, ap}
+-- Laws of the lines of an input: what `lines` comes to by the position of the first newline. Assumes nothing.
+use mathlib.Core.Bool.{Bool, true, false, cond, not}
+use mathlib.Core.Path.{◌≡◌, ◌∙◌, refl, sym, ap}
 use mathlib.Core.List.{List, [], ◌∷◌}
-use Prim.Native.Nat.{ℕ, zero, suc, ◌+◌, ◌-◌, ◌≤◌, ◌<◌}
+use Prim.Native.Nat.{ℕ, suc, ◌+◌, ◌≤◌, ◌<◌}
 use native.Mathlib.Omega.{arith}
-use borrow.Author.Tests.{eq-eqb, ne_eqb}
-use lib.ListN.{length, get_or, take, drop, length-drop}
-use lib.Seq.{get_or-drop, drop-drop}
-use Rattle.std.specs.Prelude.{◌≢◌}
+use borrow.Author.Tests.{ltb-true, ltb-false}
+use lib.Dec.{eqb, ltb}
+use lib.ListN.{length, take, drop}
+use Rattle.std.proofs.Common.{Option, Some, None}
+use Rattle.std.specs.List.{position_or_len}
 use Rattle.script.specs.Syntax.{NEWLINE, torn, line, onto, lines}
 
--- ---- at the front
+-- how many bytes stand before the first newline
+abbrev first : List ℕ → ℕ
+first s = position_or_len (λ b. eqb b NEWLINE) s
 
--- no byte before the place is a newline
-abbrev pub Passed : List ℕ → ℕ → Type 0
-Passed s n = (k : ℕ) → k < n → get_or s k 0 ≢ NEWLINE
+line_first : (s : List ℕ) → first s < length s → line (take (first s) s) (lines (drop (first s + 1) s)) ≡ lines s
+line_first [] h = absurd (omega arith)
+line_first (c ∷ cs) h = each (eqb c NEWLINE) h (line_first cs)
+  where
+    each : (b : Bool) → cond (not b) (1 + first cs) 0 < length (c ∷ cs)
+        → (first cs < length cs → line (take (first cs) cs) (lines (drop (first cs + 1) cs)) ≡ lines cs)
+        → line (take (cond (not b) (1 + first cs) 0) (c ∷ cs)) (lines (drop (cond (not b) (1 + first cs) 0 + 1) (c ∷ cs))) ≡ onto b c (lines cs)
+    each true h more = refl
+    each false h more =
+        let e : 1 + first cs ≡ suc (first cs) = omega arith in
+        let d : suc (first cs) + 1 ≡ suc (first cs + 1) = omega arith in
+        rw (e, d) (ap (onto false c) (more (omega arith)))
 
-line_front : (s : List ℕ) (n : ℕ) → n < length s → Passed s n → get_or s n 0 ≡ NEWLINE → line (take n s) (lines (drop (n + 1) s)) ≡ lines s
-line_front [] n inside passed here = absurd (omega arith)
-line_front (c ∷ cs) zero inside passed here = rw (eq-eqb _ _ here)
-line_front (c ∷ cs) (suc n) inside passed here =
-    let e : suc n + 1 ≡ suc (n + 1) = omega arith in
-    rw (e, ne_eqb _ _ (passed 0 (omega arith)))
-    (ap (onto false c) (line_front cs n (omega arith) (λ k h. passed (suc k) (omega arith)) here))
+-- bytes with no newline
+torn_after : (c : ℕ) (cs : List ℕ) → length cs ≤ first cs → onto false c (lines cs) ≡ torn
+torn_after c [] h = refl
+torn_after c (d ∷ ds) h = each (eqb d NEWLINE) h (torn_after d ds)
+  where
+    each : (b : Bool) → length (d ∷ ds) ≤ cond (not b) (1 + first ds) 0 → (length ds ≤ first ds → onto false d (lines ds) ≡ torn)
+        → onto false c (onto b d (lines ds)) ≡ torn
+    each true h more = absurd (omega arith)
+    each false h more = ap (onto false c) (more (omega arith))
 
--- after one byte more that is none
-torn_after : (c : ℕ) (cs : List ℕ) → Passed cs (length cs) → onto false c (lines cs) ≡ torn
-torn_after c [] passed = refl
-torn_after c (d ∷ ds) passed =
-    rw (ne_eqb _ _ (passed 0 (omega arith))) (ap (onto false c) (torn_after d ds (λ k h. passed (suc k) (omega arith))))
+torn_first : (s : List ℕ) → 0 < length s → length s ≤ first s → torn ≡ lines s
+torn_first [] some h = absurd (omega arith)
+torn_first (c ∷ cs) some h = each (eqb c NEWLINE) h
+  where
+    each : (b : Bool) → length (c ∷ cs) ≤ cond (not b) (1 + first cs) 0 → torn ≡ onto b c (lines cs)
+    each true h = absurd (omega arith)
+    each false h = sym (torn_after c cs (omega arith))
 
-torn_front : (s : List ℕ) → 0 < length s → Passed s (length s) → torn ≡ lines s
-torn_front [] some passed = absurd (omega arith)
-torn_front (c ∷ cs) some passed =
-    rw (ne_eqb _ _ (passed 0 (omega arith))) (sym (torn_after c cs (λ k h. passed (suc k) (omega arith))))
+-- what a search for the first newline found
+module _ (s : List ℕ) (r : Option ℕ) (found : r ≡ cond (ltb (first s) (length s)) (Some (first s)) None) where
+  pub line-found : (at : ℕ) → r ≡ Some at → line (take at s) (lines (drop (at + 1) s)) ≡ lines s
+  line-found at e = each (ltb (first s) (length s)) refl (sym e ∙ found)
+    where
+      each : (b : Bool) → ltb (first s) (length s) ≡ b → Some at ≡ cond b (Some (first s)) None
+          → line (take at s) (lines (drop (at + 1) s)) ≡ lines s
+      each true l same = let at_first : at ≡ first s = cc in rw at_first (line_first s (ltb-true _ _ l))
+      each false l same = cc
 
--- ---- from a place on
-
-module _ (s : List ℕ) (at : ℕ) where
-  passed_from : (e : ℕ) → ((k : ℕ) → at ≤ k → k < e → get_or s k 0 ≢ NEWLINE) → Passed (drop at s) (e - at)
-  passed_from e passed k h = rw get_or-drop (passed (at + k) (omega arith) (omega arith))
-
-  pub line-at :
-      (e : ℕ) → at ≤ e → e < length s → ((k : ℕ) → at ≤ k → k < e → get_or s k 0 ≢ NEWLINE) → get_or s e 0 ≡ NEWLINE
-      → line (take (e - at) (drop at s)) (lines (drop (e + 1) s)) ≡ lines (drop at s)
-  line-at e from inside passed here =
-      let n : at + (e - at + 1) ≡ e + 1 = omega arith in
-      let m : at + (e - at) ≡ e = omega arith in
-      let long : e - at < length (drop at s) = rw length-drop (omega arith) in
-      let whole = line_front (drop at s) (e - at) long (passed_from e passed) (rw (get_or-drop, m) here) in
-      rw (drop-drop (e - at + 1) at s, n) at whole
-
-  pub torn-at : at < length s → ((k : ℕ) → at ≤ k → k < length s → get_or s k 0 ≢ NEWLINE) → torn ≡ lines (drop at s)
-  torn-at inside passed =
-      torn_front (drop at s) (rw length-drop (omega arith)) (rw length-drop (passed_from (length s) passed))
+  pub torn-found : r ≡ None → 0 < length s → torn ≡ lines s
+  torn-found e some = each (ltb (first s) (length s)) refl (sym e ∙ found)
+    where
+      each : (b : Bool) → ltb (first s) (length s) ≡ b → None ≡ cond b (Some (first s)) None → torn ≡ lines s
+      each true l same = cc
+      each false l same = torn_first s some (ltb-false _ _ l)

@@ -1,12 +1,12 @@
 -- Laws of the run: what a line that is answered adds to what is printed, how long it is, and the invariant of the loop over the lines.
 -- Assumes nothing.
 use mathlib.Core.Bool.{Bool, true, false, cond}
-use mathlib.Core.Path.{◌≡◌, ◌∙◌, refl, ap}
+use mathlib.Core.Path.{◌≡◌, ◌∙◌, refl, sym, ap}
 use mathlib.Core.List.{List, [], ◌∷◌, ◌++◌}
-use Prim.Native.Nat.{ℕ, ◌+◌, ◌-◌, ◌*◌, ◌≤◌, ◌<◌}
+use Prim.Native.Nat.{ℕ, ◌+◌, ◌*◌, ◌≤◌}
 use native.Mathlib.Omega.{arith}
 use lib.Dec.{eqb}
-use lib.ListN.{length, take, drop, length-take, length-drop}
+use lib.ListN.{length}
 use Rattle.meaning.specs.Call.{Reply}
 use Rattle.std.specs.Prelude.{Option, None}
 use Rattle.script.specs.declared.Command.{Command}
@@ -14,7 +14,7 @@ use Rattle.script.specs.Syntax.{BLANK, missing, field, lettered, command, line, 
 use Rattle.script.specs.Printing.{printed, most_printed, Wrote}
 use Rattle.script.specs.Output.{stopped, replied, heard, answers}
 use Rattle.script.specs.Positions.{Roomy}
-use Rattle.script.proofs.Writing.{wrote_then, printed_most}
+use Rattle.script.proofs.Writing.{wrote_nothing, wrote_then, printed_most}
 
 -- ---- a line that is answered has at least three bytes and a newline
 
@@ -48,40 +48,39 @@ module _ (a l : List ℕ) (s rest : List ℕ) (cut : line l (lines rest) ≡ lin
 
 -- ---- the loop
 
--- with so much of the input read and of the output written, whatever writes the rest has written all
-pub record RunningAt (input out₀ area out : List ℕ) (at end : ℕ) : Type 0 where
-  pub reached : at ≤ length input
+-- with so much of the input left and of the output written, whatever writes the rest has written all
+pub record RunningAt (input out₀ area out left : List ℕ) (end : ℕ) : Type 0 where
   pub same_out : length out ≡ length out₀
-  pub little : end ≤ 6 * at
-  pub rest : (r : ℕ) (b : List ℕ) → Wrote out end (answers area (lines (drop at input))) r b → Wrote out₀ 0 (answers [] (lines input)) r b
+  pub little : end + 6 * length left ≤ 6 * length input
+  pub rest : (r : ℕ) (b : List ℕ) → Wrote out end (answers area (lines left)) r b → Wrote out₀ 0 (answers [] (lines input)) r b
 
-module _ {input out₀ area out : List ℕ} {at end : ℕ} (g : RunningAt input out₀ area out at end) (ready : Roomy input out₀) where
+-- nothing is left
+pub running_end :
+    {input out₀ area out : List ℕ} {end : ℕ} (left : List ℕ) → RunningAt input out₀ area out left end
+    → length left ≡ 0 → Wrote out₀ 0 (answers [] (lines input)) end out
+running_end {out = out} {end = end} [] g none = g.rest end out (wrote_nothing out end)
+running_end (c ∷ cs) g none = absurd (omega arith)
+
+module _ {input out₀ area out left : List ℕ} {end : ℕ} (g : RunningAt input out₀ area out left end) (ready : Roomy input out₀) where
   -- there is room for one line more
   pub running_room : end + most_printed ≤ length out
   running_room = omega arith
 
   -- a line was answered, and the answer was printed
-  module _ (e : ℕ) (from : at ≤ e) (inside : e < length input)
-      (cut : line (take (e - at) (drop at input)) (lines (drop (e + 1) input)) ≡ lines (drop at input))
-      (r : Reply (List ℕ)) (turn : replied r ≡ heard area (command (take (e - at) (drop at input))))
+  module _ (l after : List ℕ) (cut : lines left ≡ line l (lines after)) (whole : length l + 1 + length after ≡ length left)
+      (r : Reply (List ℕ)) (turn : replied r ≡ heard area (command l))
       (end' : ℕ) (out' : List ℕ) (same : length out' ≡ length out)
       (wrote : Wrote out end (printed r.number r.value) end' out') where
-    -- the line with its newline has at least four bytes
-    onward : at + 4 ≤ e + 1
-    onward =
-        let three = replied-long area (take (e - at) (drop at input)) r turn in
-        omega (arith, rw (length-take, length-drop) at three)
-
-    pub running_on : RunningAt input out₀ r.after out' (e + 1) end'
+    pub running_on : RunningAt input out₀ r.after out' after end'
     running_on =
         let short = printed_most r.number r.value in
+        let three = replied-long area l r turn in
         let n = length (printed r.number r.value) in
         let fits_out : end + n ≤ length out = omega (arith, running_room) in
         record {
-          reached = omega arith;
           same_out = same ∙ g.same_out;
-          little = omega (arith, onward, wrote.ends);
+          little = omega (arith, three, short, wrote.ends);
           rest = λ last b w. g.rest last b
-              (rw (answers-replied area (take (e - at) (drop at input)) (drop at input) (drop (e + 1) input) cut r turn)
-              (wrote_then out end (printed r.number r.value) fits_out (answers r.after (lines (drop (e + 1) input))) wrote w));
+              (rw (answers-replied area l left after (sym cut) r turn)
+              (wrote_then out end (printed r.number r.value) fits_out (answers r.after (lines after)) wrote w));
         }

@@ -3,14 +3,14 @@
 // whole input; what it prints is `output` of specs/Output.antt.
 #![tactic(auto)]
 
-ghost use Rattle.std.specs.Prelude.{◌≡◌, ℕ, cond, List, [], ◌∷◌, ◌+◌, ◌≤◌, ◌<◌, leb, length, take, drop, MatchOption};
+ghost use Rattle.std.specs.Prelude.{◌≡◌, ℕ, cond, List, [], ◌∷◌, ◌+◌, ◌≤◌, ◌<◌, leb, length, take, MatchOption, IfSome};
 ghost use Rattle.store.specs.Layout.{size, largest};
 ghost use Rattle.store.specs.Calls.{begin_area, step_area};
 ghost use Rattle.calls.specs.Answering.{answered};
-ghost use Rattle.script.specs.Syntax.{missing, got, digits, bounded, number, field, four, as_step, command, lines};
+ghost use Rattle.script.specs.Syntax.{missing, got, digits, bounded, number, field, four, as_step, command, torn, line, lines};
 ghost use Rattle.script.specs.Printing.{figures, most_printed, printed, Wrote};
 ghost use Rattle.script.specs.Output.{format_new, heard, answers, output, fitting};
-ghost use Rattle.script.specs.Positions.{cut_at, Inside, turned, Roomy};
+ghost use Rattle.script.specs.Positions.{turned, Roomy};
 
 use calls::{Accepted, Refusal};
 use std::marker::Model;
@@ -42,15 +42,6 @@ enum Command {
     Format(u32, u32, u32, u32),
     Begin(u32, u32, u32, u32),
     Step(u32),
-}
-
-// What stands at a place of an input: nothing; bytes with no newline after them; or a line, and the place of its newline. These are the three
-// cases of `Lines`; an Option of a Result would name them no plainer.
-#[derive(Clone, Copy)]
-enum Line {
-    End,
-    Torn,
-    Ending(usize),
 }
 
 // The store of a run: the first `used` bytes of a buffer with room for the longest area, and clauses see those bytes alone.
@@ -138,16 +129,13 @@ fn read_command(line: &[u8]) -> Option<Command>
     }
 }
 
-// The line at a place of the input.
-fn next_line(input: &[u8], at: usize) -> Line
-    ensures result_value { cut_at input.now at result ≡ lines (drop at input.now) }
-    ensures inside { Inside at (length input.now) result }
+// The first line of an input, and what follows its newline; or none, where no newline is left.
+fn next_line(input: &[u8]) -> Option<(&[u8], &[u8])>
+    ensures cut { MatchOption result (0 < length input.now → lines input.now ≡ torn) (λ p. lines input.now ≡ line p.0.now (lines p.1.now)) }
+    ensures whole { IfSome result (λ p. length p.0.now + 1 + length p.1.now ≡ length input.now) }
 {
-    match (at..input.len()).find(|e| input[*e] == b'\n') {
-        Some(e) => Line::Ending(e),
-        None if at < input.len() => Line::Torn,
-        None => Line::End,
-    }
+    let at = input.iter().position(|b| *b == b'\n')?;
+    Some((&input[..at], &input[at + 1..]))
 }
 
 // ---- printing
@@ -249,33 +237,25 @@ impl Kept {
 
 // ---- the run
 
-// Line after line, with no store at first.
+// Line after line, with no store at first. A last line without newline, or a line of another form, ends the run.
 fn run_lines(input: &[u8], out: &mut [u8]) -> usize
     requires { Roomy input.now out.old }
     ensures { Wrote out.old 0 (answers [] (lines input.now)) result out.new }
 {
     let mut kept = Kept::none();
-    let mut at: usize = 0;
-    let mut end: usize = 0;
-    loop {
-        let found = next_line(input, at);
-        match found {
-            Line::End => {
-                return end;
-            }
-            Line::Torn => {
-                return put_reply(out, end, FORM, 0);
-            }
-            Line::Ending(e) => {
-                let command = read_command(&input[at..e]);
-                let Some(answer) = kept.obey(command) else {
-                    return put_reply(out, end, FORM, 0);
-                };
-                end = put_reply(out, end, calls::number(answer), calls::value(answer));
-                at = e + 1;
-            }
-        }
+    let mut rest = input;
+    let mut end = 0;
+    while !rest.is_empty() {
+        let Some((line, after)) = next_line(rest) else {
+            return put_reply(out, end, FORM, 0);
+        };
+        let Some(answer) = kept.obey(read_command(line)) else {
+            return put_reply(out, end, FORM, 0);
+        };
+        end = put_reply(out, end, calls::number(answer), calls::value(answer));
+        rest = after;
     }
+    end
 }
 
 // What is printed for a whole input, at the start of `out`; its length comes back. Where `out` has no room for any output, nothing is.

@@ -1,10 +1,10 @@
 -- Whatever writes the rest has written all.
-use Rattle.std.proofs.Common.{◌-◌, length}
+use Rattle.std.proofs.Common.{length}
 use Rattle.script.proofs.Running.{RunningAt}
 use Rattle.script.proofs.run_lines.Given as goal
 
-abbrev pub invariant-loop-out : goal.invariant-loop-out
-invariant-loop-out l = RunningAt l.input l.fn.out l.kept l.out l.at l.end
+abbrev pub invariant-loop-rest : goal.invariant-loop-rest
+invariant-loop-rest l = RunningAt l.input l.fn.out l.kept l.out l.rest l.end
 
-abbrev pub decreases-loop-out : goal.decreases-loop-out
-decreases-loop-out l = length l.input - l.at
+abbrev pub decreases-loop-rest : goal.decreases-loop-rest
+decreases-loop-rest l = length l.rest

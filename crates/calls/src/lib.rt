@@ -8,16 +8,13 @@ ghost use Rattle.std.specs.Prelude.{◌≡◌, ◌≤◌, length, MatchResult};
 ghost use Rattle.meaning.specs.Numbers.{LIMITS, packed};
 ghost use Rattle.meaning.specs.Store.{idle as idle_of};
 ghost use Rattle.meaning.specs.Call.{begun as begun_of, stored_n, stored_c};
-ghost use Rattle.store.specs.Layout.{t_at, n_at, p_at};
-ghost use Rattle.store.specs.Area.{word};
 ghost use Rattle.store.specs.Calls.{format_area, begin_area, step_area};
 ghost use Rattle.calls.specs.Means.{FormatMeans, BeginMeans, StepMeans};
 ghost use Rattle.calls.specs.Answering.{number_of, value_of, answered, operation_number, Decodes};
 ghost use Rattle.calls.specs.Opening.{Opens, RefusesAny};
 
-use machine::Sizes;
 use meaning::{Thread, Verdict};
-use store::Store;
+use store::{Sizes, Store};
 
 // ---- document 01, "Numbers given back"
 
@@ -144,18 +141,6 @@ fn idle() -> Thread
 
 // ---- reading the area
 
-// The sizes of an area, T, N and P.
-fn sizes(area: &[u8]) -> Sizes
-    requires { 24 ≤ length area.now }
-    ensures { (result.t ≡ word area.now t_at) × (result.n ≡ word area.now n_at) × (result.p ≡ word area.now p_at) }
-{
-    Sizes {
-        t: store::word_at(area, store::T_AT) as usize,
-        n: store::word_at(area, store::N_AT) as usize,
-        p: store::word_at(area, store::P_AT) as usize,
-    }
-}
-
 // What begin and step read first: the area's sizes, and the thread's index and record.
 #[derive(Clone, Copy)]
 struct Opened {
@@ -171,7 +156,7 @@ fn open(area: &[u8], thread: u32) -> Result<Opened, Refusal>
     if !store::well_formed(area) {
         return Err(Refusal::Shape);
     }
-    let z = sizes(area);
+    let z = Sizes::of(area);
     let k = thread as usize;
     if z.t <= k {
         return Err(Refusal::Thread);

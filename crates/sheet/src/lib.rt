@@ -13,7 +13,7 @@ ghost use Rattle.sheet.specs.Adding.{most_areas, zeros as zeros_of, plausible, l
 ghost use Rattle.sheet.specs.Refusal.{number_of, replied};
 ghost use Rattle.sheet.specs.Room.{Room, rows_of};
 
-use store::Store;
+use store::{Sizes, Store};
 
 // ---- the tally
 
@@ -141,10 +141,8 @@ impl Tally {
         requires { Room self most_blocks × (well_formed area.now ≡ true) }
         ensures { result ≡ with_blocks self (store_blocks (decode area.now)) }
     {
-        let threads = store::word_at(area, store::T_AT) as usize;
-        let numbers = store::word_at(area, store::N_AT) as usize;
-        let blocks = store::word_at(area, store::P_AT) as usize;
-        self.with_blocks(area, store::blocks_at(threads, numbers), blocks)
+        let z = Sizes::of(area);
+        self.with_blocks(area, store::blocks_at(z.t, z.n), z.p)
     }
 
     // An area more, and if it was malformed a skipped one more.

@@ -2,12 +2,12 @@
 // What an area means stands in specs/Area.antt; every contract below is an equality with a definition of specs/ or of the limits.
 #![tactic(auto)]
 
-ghost use Rattle.std.specs.Prelude.{◌≡◌, ℕ, Bool, ◌+◌, ◌*◌, ◌<◌, ◌≤◌, leb};
+ghost use Rattle.std.specs.Prelude.{◌≡◌, ℕ, Bool, ◌+◌, ◌*◌, ◌<◌, ◌≤◌, leb, length};
 ghost use Rattle.meaning.specs.Table.{every};
 ghost use Rattle.meaning.specs.Limits.{most_threads, most_numbers, most_blocks, in_limits};
 ghost use Rattle.meaning.specs.Holding.{proper as proper_of};
 ghost use Rattle.meaning.specs.Programs.{last_line};
-ghost use Rattle.store.specs.Layout.{threads_at, thread_words, block_words, map_at, locks_at, blocks_at, size};
+ghost use Rattle.store.specs.Layout.{t_at, n_at, p_at, threads_at, thread_words, block_words, map_at, locks_at, blocks_at, size};
 ghost use Rattle.store.specs.Area.{word, thread_from, column, decode, sound_thread, in_bounds, well_formed};
 ghost use Rattle.store.specs.Live.{Live, Within, EntryWithin, PassWithin, BecomeFits, EntryFits, Small, Reaches, all_bits, Fills, table, zero_filled, threads_column, map_column, locks_column, header_column, blocks_column, entry, put_word, put_thread, put_become, put_entry, passed as passed_of};
 
@@ -192,6 +192,20 @@ pub struct Sizes {
 }
 
 impl Sizes {
+    // The sizes that stand in an area.
+    pub fn of(area: &[u8]) -> Sizes
+        requires { 4 * threads_at ≤ length area.now }
+        ensures threads { result.t ≡ word area.now t_at }
+        ensures numbers { result.n ≡ word area.now n_at }
+        ensures blocks { result.p ≡ word area.now p_at }
+    {
+        Sizes {
+            t: word_at(area, T_AT) as usize,
+            n: word_at(area, N_AT) as usize,
+            p: word_at(area, P_AT) as usize,
+        }
+    }
+
     // The words of the thread records.
     pub fn threads(self) -> Column
         requires { self.t ≤ most_threads }

@@ -9,11 +9,11 @@ use Rattle.calls.proofs.open.Goals.{Else-not-well_formed, Else-z-k}
 well : (c : Else-not-well_formed) → well_formed c.args.area.now ≡ true
 well c = sym c.well_formed-2.ensures ∙ c.if-not-well_formed.false
 
-live : (c : Else-z-k) → well_formed c.args.area.now ≡ true → Live c.args.area.now c.sizes-z.result.t c.sizes-z.result.n c.sizes-z.result.p
-live c w = let is = c.sizes-z.ensures in rw (is.0, is.1, is.2) (live-formed _ w)
+live : (c : Else-z-k) → well_formed c.args.area.now ≡ true → Live c.args.area.now c.of-z.result.t c.of-z.result.n c.of-z.result.p
+live c w = let is = c.of-z.ensures in rw (is.threads, is.numbers, is.blocks) (live-formed _ w)
 
-pub sizes-z-requires : goal.sizes-z-requires
-sizes-z-requires c = long-formed _ (well c)
+pub of-z-requires : goal.of-z-requires
+of-z-requires c = long-formed _ (well c)
 
 pub thread_at-r-requires : goal.thread_at-r-requires
 thread_at-r-requires c =

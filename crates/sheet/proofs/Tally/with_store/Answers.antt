@@ -6,10 +6,10 @@ use Rattle.sheet.proofs.Tally.with_store.Goals as goal
 
 pub with_blocks-requires : goal.with_blocks-requires
 with_blocks-requires c =
-    placed c.args.area.now c.blocks_at.ensures c.word_at-threads.ensures c.word_at-numbers.ensures c.word_at-blocks.ensures c.requires.1 c.requires.0
+    placed c.args.area.now c.blocks_at.ensures c.of-z.ensures.threads c.of-z.ensures.numbers c.of-z.ensures.blocks c.requires.1 c.requires.0
 
 pub returns : goal.returns
 returns c =
     c.with_blocks.ensures
     ∙ ap (with_blocks c.args.self)
-    (rows_all c.args.area.now c.blocks_at.ensures c.word_at-threads.ensures c.word_at-numbers.ensures c.word_at-blocks.ensures)
+    (rows_all c.args.area.now c.blocks_at.ensures c.of-z.ensures.threads c.of-z.ensures.numbers c.of-z.ensures.blocks)

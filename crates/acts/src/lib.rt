@@ -92,7 +92,7 @@ pub fn act_at(op: u32, line: u32) -> Act
     }
 }
 
-// ---- the thread's record
+// ---- the thread's record. A function a register, since a field can't be a parameter.
 
 pub fn goto(l: u32, r: Thread) -> Thread
     ensures { result ≡ goto_of l r }
@@ -189,7 +189,7 @@ pub fn admits(k: Kind, t: u32, w: u32) -> bool
     }
 }
 
-// ---- effects
+// ---- effects. A function a table, since a field can't be a parameter.
 
 pub fn nothing() -> Effect
     ensures { result ≡ nothing_of }
@@ -290,6 +290,7 @@ pub fn on_own(c: Pass) -> Effect
 
 // ---- verdicts
 
+// A need and a take differ in the verdict where the test fails. One function of both would take that verdict too, and be no more than an `if`.
 pub fn need(met: bool, v: Verdict) -> Verdict
     ensures { result ≡ need_of met v }
 {

@@ -21,7 +21,8 @@ use store::Store;
 // A word has at most ten digits.
 const FIGURES: u32 = 10;
 
-// The number for a line of another form, and for an end without newline.
+// The number for a line of another form, and for an end without newline. This one and the next are only printed: an enum of both would be turned into
+// them at the places where they stand.
 const FORM: u32 = 19;
 
 // The number for longer input.
@@ -179,7 +180,7 @@ fn put_reply(out: &mut [u8], at: usize, number: u32, value: u32) -> usize
 
 // ---- the calls
 
-// The length of a new store's area, or 0 where that is longer than any area.
+// The length of a new store's area, or 0 where that is longer than any area: format refuses the empty area by its numbers.
 fn wanted(t: u32, n: u32, p: u32) -> usize
     ensures { result ≡ cond (leb (size t n p) largest) (size t n p) 0 }
 {

@@ -441,11 +441,8 @@ pub fn set_word(area: &mut [u8], k: usize, w: Option<u32>)
     requires { Within area.old k }
     ensures { (area.new ≡ put_become area.old k w) × BecomeFits w }
 {
-    match w {
-        None => {}
-        Some(v) => {
-            put_word(area, k, v);
-        }
+    if let Some(v) = w {
+        put_word(area, k, v);
     }
 }
 
@@ -454,12 +451,9 @@ pub fn set_entry(area: &mut [u8], c: Column, e: Option<(u32, u32)>)
     requires { EntryWithin area.old c e }
     ensures { (area.new ≡ put_entry area.old c e) × EntryFits e }
 {
-    match e {
-        None => {}
-        Some((k, v)) => {
-            let cell = c.from + c.stride * (k as usize);
-            put_word(area, cell, v);
-        }
+    if let Some((k, v)) = e {
+        let cell = c.from + c.stride * (k as usize);
+        put_word(area, cell, v);
     }
 }
 

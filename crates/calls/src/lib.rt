@@ -7,7 +7,7 @@
 ghost use Rattle.std.specs.Prelude.{◌≡◌, ◌≤◌, length, MatchResult};
 ghost use Rattle.meaning.specs.Numbers.{LIMITS, packed};
 ghost use Rattle.meaning.specs.Store.{idle as idle_of};
-ghost use Rattle.meaning.specs.Call.{begun as begun_of, stored_n, stored_c};
+ghost use Rattle.meaning.specs.Call.{begun as begun_of};
 ghost use Rattle.store.specs.Calls.{format_area, begin_area, step_area};
 ghost use Rattle.calls.specs.Means.{FormatMeans, BeginMeans, StepMeans};
 ghost use Rattle.calls.specs.Answering.{number_of, value_of, answered, operation_number, Decodes};
@@ -106,28 +106,20 @@ impl TryFrom<u32> for Operation {
     }
 }
 
-// What begin stores of a number and of a word.
-fn stored_n(operation: Operation, n: u32) -> u32
-    ensures { result ≡ stored_n (operation_number operation) n }
-{
-    if operation == Operation::Level { 0 } else { n }
-}
-
-fn stored_c(operation: Operation, c: u32) -> u32
-    ensures { result ≡ stored_c (operation_number operation) c }
-{
-    if operation == Operation::Write { c } else { 0 }
-}
-
-// The record that begin writes.
+// The record that begin writes: a word for a write alone, and no number for a levelling.
 fn begun(operation: Operation, n: u32, c: u32) -> Thread
     ensures { result ≡ begun_of (operation_number operation) n c }
 {
+    let (n, c) = match operation {
+        Operation::Write => (n, c),
+        Operation::Read | Operation::Unmap => (n, 0),
+        Operation::Level => (0, 0),
+    };
     Thread {
         op: operation as u32,
         line: 1,
-        n: stored_n(operation, n),
-        c: stored_c(operation, c),
+        n,
+        c,
         ..Thread::default()
     }
 }

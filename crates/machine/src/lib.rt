@@ -29,7 +29,8 @@ use meaning::{Act, Effect, Reg, Thread, Verdict};
 pub use store::Sizes;
 use store::Store;
 
-// ---- searches among the blocks
+// ---- searches among the blocks. That a store has no more blocks than its arrays is asked in clauses: `Store` is public with its fields, and a type that
+// kept it would ask more of whoever fills one.
 
 // W5: the lowest-numbered free block, or how many blocks there are where none is free. Document 01 prescribes the form, a loop that breaks with the
 // number (docs/DECISIONS.md, "Forms of places").

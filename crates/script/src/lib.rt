@@ -21,12 +21,12 @@ use store::Store;
 // A word has at most ten digits.
 const FIGURES: u32 = 10;
 
-// The number for a line of another form, and for an end without newline. This one and the next are only printed: an enum of both would be turned into
-// them at the places where they stand.
-const FORM: u32 = 19;
-
-// The number for longer input.
-const LONG: u32 = 20;
+// Why a run ends before its input does: a line is of another form, or the last one has no newline; or the input is longer than a script may be.
+#[derive(Clone, Copy)]
+enum Stop {
+    Form = 19,
+    Long = 20,
+}
 
 // The most bytes of input.
 pub const MOST_INPUT: usize = 65536;
@@ -248,10 +248,10 @@ fn run_lines(input: &[u8], out: &mut [u8]) -> usize
     let mut end = 0;
     while !rest.is_empty() {
         let Some((line, after)) = next_line(rest) else {
-            return put_reply(out, end, FORM, 0);
+            return put_reply(out, end, Stop::Form as u32, 0);
         };
         let Some(answer) = kept.obey(read_command(line)) else {
-            return put_reply(out, end, FORM, 0);
+            return put_reply(out, end, Stop::Form as u32, 0);
         };
         end = put_reply(out, end, calls::number(answer), calls::value(answer));
         rest = after;
@@ -268,7 +268,7 @@ pub fn run(input: &[u8], out: &mut [u8]) -> usize
         return 0;
     }
     if MOST_INPUT < input.len() {
-        return put_reply(out, 0, LONG, 0);
+        return put_reply(out, 0, Stop::Long as u32, 0);
     }
     run_lines(input, out)
 }

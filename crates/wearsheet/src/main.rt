@@ -30,7 +30,8 @@ fn open_file<R: Files>(rt: &R, name: &[u8]) -> io::Result<R::File> {
     }
 }
 
-// Reads until the buffer is full, the file ends or a read fails: how many bytes came. std has no such method that takes no heap.
+// Reads until the buffer is full, the file ends or a read fails: how many bytes came. std has no such method that takes no heap; and
+// `read_full` of steptrace keeps what came before a read that fails, where this one is an error.
 fn read_area(file: &mut impl Read, area: &mut [u8]) -> io::Result<usize>
     ensures { ReadsAtMost result area.new }
 {

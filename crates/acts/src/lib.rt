@@ -1,6 +1,7 @@
 // The four programs as tables, and the small by-value functions that a line is made of.
 // Records, effects, verdicts: each function is the definition of the same name in the crate meaning (specs/Programs.antt,
-// specs/Holding.antt, specs/Step.antt).
+// specs/Holding.antt, specs/Step.antt). What is asked of a thread's number and of a line stands in clauses: both are words of C and of areas, malformed
+// ones too, and the functions are public (docs/PUBLIC.md).
 #![tactic(auto)]
 
 ghost use Rattle.std.specs.Prelude.{◌≡◌, ◌<◌, ◌≤◌};

@@ -255,7 +255,7 @@ fn judge_act(act: Act, s: &Store, t: u32, r: Thread) -> Verdict
     }
 }
 
-// What thread t's next line would do to the store that the area holds.
+// What thread t's next line would do to the store that the area holds. That the area is live stands in a clause here and below: it is C's bytes, lent.
 pub fn judge(area: &[u8], z: Sizes, t: u32, r: Thread) -> Verdict
     requires { Live area.now z.t z.n z.p × Steady t r × AtLine r }
     ensures { result ≡ perform (act_at r.op r.line) (decode area.now) t r }

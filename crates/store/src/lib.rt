@@ -192,7 +192,7 @@ pub struct Sizes {
 }
 
 impl Sizes {
-    // The sizes that stand in an area.
+    // The sizes that stand in an area. Here and elsewhere a word becomes a usize by `as`: there is no From for that, as in Rust.
     pub fn of(area: &[u8]) -> Sizes
         requires { 4 * threads_at ≤ length area.now }
         ensures threads { result.t ≡ word area.now t_at }

@@ -4,7 +4,7 @@
 // (specs/Means.antt). None of the six has a `requires`.
 #![tactic(auto)]
 
-ghost use Rattle.std.specs.Prelude.{◌≡◌, ◌≤◌, length, MatchResult};
+ghost use Rattle.std.specs.Prelude.{◌≡◌, ◌≤◌, MatchResult};
 ghost use Rattle.meaning.specs.Numbers.{LIMITS, packed};
 ghost use Rattle.meaning.specs.Store.{idle as idle_of};
 ghost use Rattle.meaning.specs.Call.{begun as begun_of};

@@ -10,7 +10,7 @@ use Rattle.meaning.specs.declared.Pass.TheVariants.{Leave, Plus, Minus}
 use Rattle.meaning.specs.declared.Verdict.{Verdict}
 use Rattle.meaning.specs.declared.Verdict.TheVariants.{Blocked, Fault, Go, Done}
 use Rattle.meaning.specs.Store.{Store, idle}
-use Rattle.meaning.specs.Step.{perform, nothing}
+use Rattle.meaning.specs.Step.{perform}
 use Rattle.meaning.proofs.Invariant.{Puts}
 use Rattle.meaning.proofs.Acts.{wearing, shape, Passable, NearBounded, Bounded, wearing-bounded, Lands, lands}
 use Rattle.store.specs.Live.{EntryBelow, PassBelow}
@@ -21,9 +21,6 @@ VerdictInside s n p Blocked = Unit {0}
 VerdictInside s n p Fault = Unit {0}
 VerdictInside s n p (Go r e) = EffectInside s n p e
 VerdictInside s n p (Done v e) = EffectInside s n p e
-
-pub nowhere : (s : Store) (n p : ℕ) → EffectInside s n p nothing
-nowhere s n p = record { map = tt; locks = tt; header = tt; content = tt; wear = tt; own = tt }
 
 entry-below : (size bound : ℕ) (c : Option (ℕ × ℕ)) → Puts c (λ k w. (k < size) × (w ≤ bound)) → EntryBelow size c
 entry-below size bound None x = tt

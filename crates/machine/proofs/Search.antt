@@ -1,6 +1,6 @@
 -- The searches among the first k blocks, one block more at a time: what their loops go by. Assumes nothing.
 use Rattle.std.specs.Prelude.{Option, Some, None, unwrap_or}
-use mathlib.Core.Path.{◌≡◌, sym}
+use mathlib.Core.Path.{◌≡◌}
 use mathlib.Core.Bool.{Bool}
 use Prim.Native.Nat.{ℕ, zero, suc, ◌+◌, ◌<◌, ◌≤◌}
 use native.Mathlib.Numerals.{add-one}
@@ -60,13 +60,3 @@ module _ {gives : ℕ → Option ℕ → Type 0} {eligible : ℕ → Bool} {beat
   leads-stays w (nobody e l) g f h = absurd (omega arith)
   leads-stays w (somebody e b i l) g f h =
       somebody (rw (add-one, r.with_key k w low g, e, r.order k at w least low (omega arith) g i, le-ltb w least h)) (omega arith) i l
-
--- what is found in the end
-module _ {gives : ℕ → Option ℕ → Type 0} {eligible : ℕ → Bool} {beats : ℕ → ℕ → Bool} {k at least : ℕ} where
-  pub leads-nobody : Leads gives eligible beats k at least → least ≡ most_word + 1 → None ≡ best eligible beats k
-  leads-nobody (nobody e l) h = sym e
-  leads-nobody (somebody e b i l) h = absurd (omega arith)
-
-  pub leads-somebody : Leads gives eligible beats k at least → (least ≡ most_word + 1 → ⊥) → Some at ≡ best eligible beats k
-  leads-somebody (nobody e l) h = absurd (h l)
-  leads-somebody (somebody e b i l) h = sym e

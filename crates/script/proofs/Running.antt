@@ -13,7 +13,7 @@ use Rattle.script.specs.declared.Command.{Command}
 use Rattle.script.specs.Syntax.{BLANK, missing, field, lettered, command, line, lines}
 use Rattle.script.specs.Printing.{printed, most_printed, Wrote}
 use Rattle.script.specs.Output.{stopped, replied, heard, answers}
-use Rattle.script.specs.Positions.{Roomy}
+use Rattle.script.specs.Turns.{Roomy}
 use Rattle.script.proofs.Writing.{wrote_nothing, wrote_then, printed_most}
 
 -- ---- a line that is answered has at least three bytes and a newline
@@ -43,8 +43,6 @@ module _ (a l : List ℕ) (s rest : List ℕ) (cut : line l (lines rest) ≡ lin
       (r : Reply (List ℕ)) → replied r ≡ heard a (command l)
       → answers a (lines s) ≡ printed r.number r.value ++ answers r.after (lines rest)
   answers-replied r e = rw (← cut, ← e)
-
--- ---- the whole
 
 -- ---- the loop
 

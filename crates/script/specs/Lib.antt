@@ -2,5 +2,5 @@
 pub mod Syntax
 pub mod Printing
 pub mod Output
-pub mod Positions
+pub mod Turns
 pub mod Samples

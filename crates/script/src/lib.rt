@@ -4,13 +4,14 @@
 #![tactic(auto)]
 
 ghost use Rattle.std.specs.Prelude.{◌≡◌, ℕ, cond, List, [], ◌∷◌, ◌+◌, ◌≤◌, ◌<◌, leb, length, take, MatchOption, IfSome};
+ghost use Rattle.meaning.specs.Limits.{in_limits};
 ghost use Rattle.store.specs.Layout.{size, largest};
 ghost use Rattle.store.specs.Calls.{begin_area, step_area};
 ghost use Rattle.calls.specs.Answering.{answered};
 ghost use Rattle.script.specs.Syntax.{missing, got, digits, bounded, number, field, four, as_step, command, torn, line, lines};
 ghost use Rattle.script.specs.Printing.{figures, most_printed, printed, Wrote};
 ghost use Rattle.script.specs.Output.{format_new, heard, answers, output, fitting};
-ghost use Rattle.script.specs.Positions.{turned, Roomy};
+ghost use Rattle.script.specs.Turns.{turned, Roomy};
 
 use calls::{Accepted, Refusal};
 use std::marker::Model;
@@ -142,7 +143,7 @@ fn next_line(input: &[u8]) -> Option<(&[u8], &[u8])>
 // ---- printing
 
 // Each function that writes puts its bytes at a place, and the place after them comes back. `put_byte`, `put_figures` and `run` are public in
-// this form (docs/PUBLIC.md), so a struct of buffer and place would stand beside it for `put_reply` alone.
+// this form (docs/PUBLIC.md), and page has a struct of buffer and place over the first two; here it would serve `put_reply` alone.
 
 pub fn put_byte(out: &mut [u8], at: usize, b: u8) -> usize
     requires { at < length out.old }
@@ -180,14 +181,15 @@ fn put_reply(out: &mut [u8], at: usize, number: u32, value: u32) -> usize
 
 // ---- the calls
 
-// The length of a new store's area, or 0 where that is longer than any area: format refuses the empty area by its numbers.
-fn wanted(t: u32, n: u32, p: u32) -> usize
-    ensures { result ≡ cond (leb (size t n p) largest) (size t n p) 0 }
+// The length of a new store's area, or 0 where its sizes are out of their limits: format refuses those before it looks at the area.
+fn wanted(t: u32, n: u32, p: u32, d: u32) -> usize
+    ensures { result ≡ cond (in_limits t n p d) (size t n p) 0 }
 {
-    let numbers = n as usize;
-    let map_at = store::THREADS_AT + store::THREAD_WORDS * t as usize;
-    let length = 4 * (map_at + numbers + numbers + store::BLOCK_WORDS * p as usize);
-    if length <= Store::LONGEST { length } else { 0 }
+    if Store::in_limits(t, n, p, d) {
+        store::size_of(t as usize, n as usize, p as usize)
+    } else {
+        0
+    }
 }
 
 impl Kept {
@@ -204,7 +206,7 @@ impl Kept {
     fn format(&mut self, t: u32, n: u32, p: u32, d: u32) -> Result<Accepted, Refusal>
         ensures { answered result self.new ≡ format_new self.old t n p d }
     {
-        let length = wanted(t, n, p);
+        let length = wanted(t, n, p, d);
         let answer = calls::try_format(&mut self.buffer[..length], t, n, p, d);
         if answer.is_ok() {
             self.used = length;

@@ -119,7 +119,7 @@ impl Tally {
         }
     }
 
-    // All blocks of a store, from the area's words: so many records from word `from` on.
+    // All blocks of a store, from the area's words: so many records from word `from` on, as `rows_of` has them. A record's place serves both of its words.
     fn with_blocks(self, area: &[u8], from: usize, count: usize) -> Tally
         requires { Room self count × Reaches area.now (from + 2) block_words count }
         ensures { result ≡ with_blocks self (rows_of (word area.now) from count) }

@@ -1,5 +1,6 @@
 // The store area: its definition and its test, reading and setting its words, and the working store that is filled from it.
-// What an area means stands in specs/Area.antt; every contract below is an equality with a definition of specs/ or of the limits.
+// What an area means stands in specs/Area.antt; every contract below but `every`'s is an equality with a definition of specs/ or
+// of the limits.
 #![tactic(auto)]
 
 ghost use Rattle.std.specs.Prelude.{◌≡◌, ℕ, Bool, ◌+◌, ◌*◌, ◌<◌, ◌≤◌, leb, length};
@@ -97,7 +98,7 @@ pub fn word_at(area: &[u8], k: usize) -> u32
     u32::from_le_bytes([area[i], area[i + 1], area[i + 2], area[i + 3]])
 }
 
-// Word k of the area becomes v, and nothing else changes.
+// Word k of the area becomes v, and nothing else changes. By `copy_from_slice` the goal stayed open that this is `put_word`, which sets byte after byte.
 pub fn put_word(area: &mut [u8], k: usize, v: u32)
     requires { Within area.old k }
     ensures { area.new ≡ put_word area.old k v }
@@ -129,6 +130,8 @@ pub const THREADS_AT: usize = 6;
 pub const THREAD_WORDS: usize = 7;
 
 pub const BLOCK_WORDS: usize = 4;
+
+const HEADER: usize = 0;
 
 pub const CONTENT: usize = 1;
 
@@ -165,7 +168,8 @@ pub fn size_of(t: usize, n: usize, p: usize) -> usize
     4 * (blocks_at(t, n) + BLOCK_WORDS * p)
 }
 
-// A column of the area's words: those at from, from + stride, .., of which there are count.
+// A column of the area's words: those at from, from + stride, .., of which there are count. The area comes beside it and not in it: the setters are lent
+// it to write, and that it reaches is a fact of both.
 #[derive(Clone, Copy)]
 pub struct Column {
     pub from: usize,
@@ -183,7 +187,8 @@ impl Column {
     }
 }
 
-// The sizes T, N and P of an area, and where each table stands in it.
+// The sizes T, N and P of an area, and where each table stands in it. That they keep to their limits stands in clauses: the type is public with its
+// fields (docs/PUBLIC.md), and a malformed area's sizes are read as well.
 #[derive(Clone, Copy)]
 pub struct Sizes {
     pub t: usize,
@@ -244,11 +249,7 @@ impl Sizes {
         requires { (self.t ≤ most_threads) × (self.n ≤ most_numbers) }
         ensures { result ≡ header_column self.t self.n self.p }
     {
-        Column {
-            from: blocks_at(self.t, self.n),
-            stride: BLOCK_WORDS,
-            count: self.p,
-        }
+        self.blocks(HEADER)
     }
 
     // The table of the blocks that begins so many words behind the headers.
@@ -340,7 +341,7 @@ fn all_at_most(area: &[u8], c: Column, bound: u32) -> bool
     every(c.count, |k| c.entry(area, k) <= bound)
 }
 
-// The last line of an operation, 0 for what is none.
+// The last line of an operation, 0 for what is none. An operation is the word of an area here, as in specs/Programs.antt.
 fn last_line(op: u32) -> u32
     ensures { result ≡ last_line op }
 {

@@ -145,7 +145,8 @@ impl<R: Env + Files, W: Write + Drop> Run<'_, R, W> {
         }
     }
 
-    // All arguments in turn. Argument 0 is the program's own name. `args` of std would give no name at all where one of them is no UTF-8.
+    // All arguments in turn. Argument 0 is the program's own name. `args` of std takes a heap, and would give no
+    // name at all where one of them is no UTF-8.
     fn add_arguments(&mut self) {
         for i in 1..usize::MAX {
             if self.add_argument(i).is_break() {

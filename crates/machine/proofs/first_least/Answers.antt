@@ -1,6 +1,6 @@
 -- One block more: it has no key, or is taken, or what was found stays.
-use Rattle.std.proofs.Common.{◌≡◌, arith}
-use Rattle.machine.proofs.Search.{leads-past, leads-taken, leads-stays, leads-nobody, leads-somebody}
+use Rattle.std.proofs.Common.{arith}
+use Rattle.machine.proofs.Search.{leads-past, leads-taken, leads-stays}
 use Rattle.machine.proofs.first_least.Goals as goal
 use Rattle.machine.proofs.first_least.Goals.{in-Some+then-w-least, in-Some+else-w-least, in_default}
 
@@ -16,13 +16,3 @@ loop-k-preserved g c = λ eligible beats r.
           (leads-stays r c.loop-k-test.true w.in-Some.w so_far w.in-Some.ensures (omega arith) (omega arith))
       | in_default w ↦ rw (w.at-is, w.least-is) (leads-past r c.loop-k-test.true so_far w.in_default.ensures)
     ]
-
-pub returns-then-least-eq-BEYOND : goal.returns-then-least-eq-BEYOND
-returns-then-least-eq-BEYOND g c = λ eligible beats r.
-    let e : c.loop-k.k ≡ c.args.blocks = omega arith in
-    rw (← e) (leads-nobody (c.loop-k.invariant eligible beats r) c.if-least-eq-BEYOND.true)
-
-pub returns : goal.returns
-returns g c = λ eligible beats r.
-    let e : c.loop-k.k ≡ c.args.blocks = omega arith in
-    rw (← e) (leads-somebody (c.loop-k.invariant eligible beats r) c.if-least-eq-BEYOND.false)

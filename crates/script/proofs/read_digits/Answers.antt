@@ -1,4 +1,4 @@
--- A digit more makes the value too large.
+-- A digit more makes the value too large. The check finds this alone: it stays so that the edit at this goal is refused by what differs.
 use Rattle.std.proofs.Common.{◌∙◌, arith}
 use Rattle.script.proofs.Reading.{digits_large}
 use Rattle.script.proofs.read_digits.Goals as goal

@@ -1,4 +1,4 @@
--- The input is too long.
+-- The input is too long. The check finds this alone: it stays so that the edit at this goal is refused by what differs.
 use Rattle.script.specs.Output.{output}
 use borrow.Author.Tests.{le-leb, lt-leb}
 use Rattle.script.proofs.run.Goals as goal

@@ -1,4 +1,4 @@
--- The end of the input, and a line that was answered.
+-- The end of the input, which the check finds alone and which stays so that the edit at this goal is refused by what differs; and a line that was answered.
 use Rattle.std.proofs.Common.{◌≡◌, ◌∙◌, ap, arith}
 use Rattle.std.proofs.lemmas.Bool.Decides.{nat_tests}
 use Rattle.calls.specs.Answering.{answered}

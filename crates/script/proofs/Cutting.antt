@@ -12,7 +12,7 @@ use Rattle.std.specs.List.{position_or_len}
 use Rattle.script.specs.Syntax.{NEWLINE, torn, line, onto, lines}
 
 -- how many bytes stand before the first newline
-abbrev first : List ℕ → ℕ
+abbrev pub first : List ℕ → ℕ
 first s = position_or_len (λ b. eqb b NEWLINE) s
 
 line_first : (s : List ℕ) → first s < length s → line (take (first s) s) (lines (drop (first s + 1) s)) ≡ lines s

@@ -167,7 +167,7 @@ pub fn put_figures(out: &mut [u8], at: usize, most: u32, value: u64) -> usize
     end
 }
 
-// A number and a value, on a line.
+// A number and a value, on a line: by hand and not by `write!`, for the reason that `put_figures` has.
 #[tactic(auto, using(crate::proofs::Writing::figures_most))]
 fn put_reply(out: &mut [u8], at: usize, number: u32, value: u32) -> usize
     requires { at + most_printed ≤ length out.old }

@@ -1,8 +1,8 @@
 -- The last digits of the text are copied.
-use Rattle.std.proofs.Common.{◌≡◌, ◌≤◌, ◌-◌, ◌∙◌, sym, arith, length, length-drop, take, drop}
+use Rattle.std.proofs.Common.{◌≡◌, ◌-◌, ◌∙◌, sym, arith, length, take, drop}
 use Rattle.script.specs.Printing.{figures}
 use Rattle.script.proofs.Writing.{figures-last, wrote_copy}
-use Rattle.std.proofs.lemmas.List.{take_all}
+use Rattle.script.proofs.Front.{take_rest}
 use Rattle.script.proofs.put_figures.Goals as goal
 
 pub returns : goal.returns
@@ -11,7 +11,6 @@ returns c =
     let d = c.as_bytes-digits.result.now in
     let s = c.saturating_sub.result in
     let last = take (length d - s) (drop s d) in
-    let long : length (drop s d) ≤ length d - s = rw length-drop (omega arith) in
     let e : last ≡ figures x.most x.value =
-    take_all (length d - s) (drop s d) long ∙ rw (c.saturating_sub.ensures, c.as_bytes-digits.ensures.value, c.format.ensures.text) (sym (figures-last x.most x.value (omega arith))) in
+    take_rest s d ∙ rw (c.saturating_sub.ensures, c.as_bytes-digits.ensures.value, c.format.ensures.text) (sym (figures-last x.most x.value (omega arith))) in
     wrote_copy x.out.now x.at (figures x.most x.value) last c.copy_from_slice.new.self e c.copy_from_slice.ensures.after

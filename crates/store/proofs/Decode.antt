@@ -1,9 +1,10 @@
 -- What decoding a live area gives: its sizes are those of `Live`, and a test of all entries of a table is a test of the area's words.
--- And when a table of so many entries is another one. Assumes nothing.
+-- And when a table of so many entries is another one, and laws of `every`. Assumes nothing.
 use mathlib.Core.Path.{◌≡◌, refl, ◌∙◌, sym, ap, ap₂, fun_ext}
 use mathlib.Core.Bool.{Bool, ◌&&◌}
 use mathlib.Core.List.{List}
 use Prim.Native.Nat.{ℕ, zero, suc, ◌+◌, ◌*◌, ◌<◌, ◌≤◌}
+use native.Mathlib.Numerals.{add-one}
 use native.Mathlib.Omega.{arith}
 use lib.Dec.{leb, ltb}
 use borrow.Author.Tests.{lt-ltb, ltb-true, ltb-false}
@@ -23,8 +24,16 @@ pub below_is : {A : Type 0} (z : A) (n : ℕ) (f g : ℕ → A) → ((k : ℕ) �
 below_is z n f g h o =
     fun_ext λ k. either_way (ltb k n) (λ e. rw e (h k (ltb-true k n e))) (λ e. rw e (o k (ltb-false k n e)))
 
+-- one number more, as a loop counts
+pub every_more : (test : ℕ → Bool) (k : ℕ) {all b : Bool} → all ≡ every k test → b ≡ test k → all && b ≡ every (k + 1) test
+every_more test k p q = rw (add-one, p, q)
+
+-- a loop that has counted to the size
+pub every-done : (test : ℕ → Bool) (k n : ℕ) {all : Bool} → all ≡ every k test → k ≤ n → n ≤ k → all ≡ every n test
+every-done test k n p h l = let e : k ≡ n = omega arith in rw (← e) p
+
 -- tests that agree below a size hold of it alike
-every-cong : (f g : ℕ → Bool) (n : ℕ) → ((k : ℕ) → k < n → f k ≡ g k) → every n f ≡ every n g
+pub every-cong : (f g : ℕ → Bool) (n : ℕ) → ((k : ℕ) → k < n → f k ≡ g k) → every n f ≡ every n g
 every-cong f g zero h = refl
 every-cong f g (suc n) h = ap₂ ◌&&◌ (every-cong f g n (λ k l. h k (omega arith))) (h n (omega arith))
 

@@ -3,7 +3,7 @@
 use mathlib.Core.Path.{◌≡◌, refl, ◌∙◌, sym, ap, fun_ext}
 use mathlib.Core.Bool.{Bool, true, false, cond}
 use mathlib.Core.List.{List}
-use Prim.Native.Nat.{ℕ, ◌+◌, ◌*◌, ◌<◌, ◌≤◌}
+use Prim.Native.Nat.{ℕ, zero, suc, ◌+◌, ◌*◌, ◌<◌, ◌≤◌}
 use native.Mathlib.Omega.{arith}
 use lib.Dec.{eqb, ltb}
 use lib.ListN.{set, length, replicate, length-replicate, length-set}
@@ -18,6 +18,14 @@ use Rattle.store.specs.Layout.{t_at, n_at, p_at, d_at, lock_at, owner_at, thread
 use Rattle.store.specs.Area.{word, thread_from, column, decode}
 use Rattle.store.specs.Live.{Live, table, Fills, view}
 use Rattle.store.proofs.Decode.{decode-live}
+
+table-zeros : (room j : ℕ) → table (replicate room 0) j ≡ 0
+table-zeros zero j = refl
+table-zeros (suc room) zero = refl
+table-zeros (suc room) (suc j) = table-zeros room j
+
+table_none : (room : ℕ) (at : ℕ → ℕ) (from stride : ℕ) → table (replicate room 0) ≡ column at from stride 0
+table_none room at from stride = fun_ext λ j. rw (le-ltb j 0 (omega arith)) (table-zeros room j)
 
 table_more :
     (l : List ℕ) (at : ℕ → ℕ) (from stride k : ℕ) {v : ℕ} → k < length l → table l ≡ column at from stride k →
@@ -42,7 +50,11 @@ pub record Filled (at : ℕ → ℕ) (from stride count room k : ℕ) (l : List 
   pub long : length l ≡ room
   pub holds : table l ≡ column at from stride k
 
--- one word more
+-- before, in and after the loop
+pub filled_none : {a l : List ℕ} {c : Column} (at : ℕ → ℕ) → Fills a c l → Filled at c.from c.stride c.count (length l) 0 l
+filled_none {l = l} {c} at f =
+    record { most = omega arith; long = refl; holds = rw f.zeroed (table_none (length l) at c.from c.stride) }
+
 pub filled_more :
     {at : ℕ → ℕ} {from stride count room k v : ℕ} {l : List ℕ} → Filled at from stride count room k l → k < count → count ≤ room →
     v ≡ at (from + stride * k) → Filled at from stride count room (k + 1) (set l k v)
@@ -52,6 +64,11 @@ filled_more {at} {from} {stride} {k = k} {v} {l} f h g q =
       long = length-set l k v ∙ f.long;
       holds = table_more l at from stride k (omega (arith, f.long)) f.holds q;
     }
+
+pub filled-done :
+    {at : ℕ → ℕ} {from stride count room k : ℕ} {l : List ℕ} → Filled at from stride count room k l → count ≤ k →
+    table l ≡ column at from stride count
+filled-done {count = count} {k = k} f h = let i : k ≡ count = omega (arith, f.most) in rw (← i) f.holds
 
 -- ---- the working store of a live area
 

@@ -20,6 +20,7 @@ use Rattle.meaning.proofs.Base.Words.{either_way, clash, every_at, all-every, an
 use Rattle.meaning.proofs.Invariant.{Stands}
 use Rattle.meaning.proofs.Acts.{NearBounded}
 use Rattle.store.specs.Layout.{t_at, n_at, p_at, d_at, size, largest}
+use Rattle.store.specs.Live.{Live}
 use Rattle.store.specs.Area.{word, decode, zeros, working, sound_thread, in_bounds, sound, fitted, well_formed}
 
 -- ---- tests joined
@@ -302,3 +303,14 @@ pub well_formed-bounds :
     {a : List ℕ} {t n p d : ℕ} → Head a t n p d → in_limits t n p d ≡ true → length a ≡ size t n p → in_bounds (decode a) ≡ well_formed a
 unfolding well_formed
 well_formed-bounds h e f = rw (eq-eqb _ _ (f ∙ head-size h), sym (head-limits h) ∙ e)
+
+pub live-head : {a : List ℕ} {t n p d : ℕ} → Head a t n p d → in_limits t n p d ≡ true → length a ≡ size t n p → Live a t n p
+live-head {t = t} {n = n} {p = p} {d = d} h e f =
+    let z = limits-sizes t n p d e in
+    record {
+      threads = sym h.threads;
+      numbers = sym h.numbers;
+      blocks = sym h.blocks;
+      few = (z.t-high, z.n-high, z.p-high);
+      fits = f;
+    }

@@ -22,7 +22,7 @@ use Rattle.meaning.proofs.Base.Words.{upd_same, upd_other, either_way}
 use Rattle.store.specs.declared.Column.{Column}
 use Rattle.store.specs.Layout.{t_at, n_at, p_at, d_at, lock_at, owner_at, threads_at, thread_words, map_at, locks_at, blocks_at, block_words, size}
 use Rattle.store.specs.Area.{word, thread_row, thread_from, column, store_of, decode}
-use Rattle.store.specs.Live.{Live, map_column, locks_column, header_column, blocks_column, Within, PassWithin, BecomeFits, EntryFits, EntryBelow, PassBelow, Small, with_effect, put_word, put_thread, put_become, put_entry, passed}
+use Rattle.store.specs.Live.{Live, map_column, locks_column, header_column, blocks_column, Within, EntryWithin, PassWithin, BecomeFits, EntryFits, EntryBelow, PassBelow, Small, with_effect, put_word, put_thread, put_become, put_entry, passed}
 use Rattle.store.proofs.Bytes.{word-put, length-put_word, OfWords, put_from, upd_from, word-put_from, upd_from_other, upd_from_at}
 use Rattle.store.proofs.Decode.{decode-live, below_is}
 
@@ -280,6 +280,12 @@ module _ {a : List ℕ} {t n p : ℕ} (live : Live a t n p) where
       Live (put_entry a at e) t n p
   live-entry at None h i f = live
   live-entry at (Some (k, x)) h i f = live-put live (at.from + at.stride * k) x (i k h).0 (i k h).1 f
+
+  pub within-entry :
+      (at : Column) (e : Option (ℕ × ℕ)) → EntryBelow at.count e →
+      ((k : ℕ) → k < at.count → Within a (at.from + at.stride * k) × (p_at < at.from + at.stride * k)) → EntryWithin a at e
+  within-entry at None h i = tt
+  within-entry at (Some (k, x)) h i = (i k h).0
 
   -- where each table stands
   pub map-inside : (k : ℕ) → k < n → Within a (map_at t + 1 * k) × (p_at < map_at t + 1 * k)

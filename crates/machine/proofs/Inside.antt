@@ -1,16 +1,19 @@
 -- The entries that a verdict's effect puts to are within their tables, and what becomes of a lock or an owner is a word: read off what is proved
--- of every act. Assumes nothing.
+-- of every act. And that a register picks a block below a bound on both. Assumes nothing.
 use Rattle.std.specs.Prelude.{Option, Some, None}
+use mathlib.Core.Path.{◌≡◌, ◌∙◌}
 use Prim.Native.Nat.{ℕ, ◌<◌, ◌≤◌}
 use Rattle.meaning.specs.declared.Act.{Act}
 use Rattle.meaning.specs.declared.Thread.{Thread}
 use Rattle.meaning.specs.declared.Effect.{Effect}
+use Rattle.meaning.specs.declared.Reg.{Reg}
+use Rattle.meaning.specs.declared.Reg.TheVariants.{P, Q}
 use Rattle.meaning.specs.declared.Pass.{Pass}
 use Rattle.meaning.specs.declared.Pass.TheVariants.{Leave, Plus, Minus}
 use Rattle.meaning.specs.declared.Verdict.{Verdict}
 use Rattle.meaning.specs.declared.Verdict.TheVariants.{Blocked, Fault, Go, Done}
 use Rattle.meaning.specs.Store.{Store, idle}
-use Rattle.meaning.specs.Step.{perform}
+use Rattle.meaning.specs.Step.{block, perform}
 use Rattle.meaning.proofs.Invariant.{Puts}
 use Rattle.meaning.proofs.Acts.{wearing, shape, Passable, NearBounded, Bounded, wearing-bounded, Lands, lands}
 use Rattle.store.specs.Live.{EntryBelow, PassBelow}
@@ -58,3 +61,14 @@ module _ (s : Store) (t : ℕ) (r : Thread) (N : NearBounded s t r) where
 
   pub perform-inside : (a : Act) → VerdictInside s s.numbers s.blocks (perform a s t r)
   perform-inside a = verdict-inside a (perform a s t r) (lands a s t r)
+
+-- ---- the block that a register picks, and an act of the same store
+
+pub block-below : (b : Reg) (r : Thread) (n : ℕ) → r.p < n → r.q < n → block b r < n
+block-below P r n p q = p
+block-below Q r n p q = q
+
+-- what an act would do, of the same act and the same store
+pub perform_same :
+    {act act' : Act} {s s' : Store} (t : ℕ) (r : Thread) {v : Verdict} → v ≡ perform act s t r → act ≡ act' → s ≡ s' → v ≡ perform act' s' t r
+perform_same t r e p q = e ∙ (λ i. perform (p i) (q i) t r)

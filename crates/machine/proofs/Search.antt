@@ -1,18 +1,29 @@
 -- The searches among the first k blocks, one block more at a time: what their loops go by. Assumes nothing.
 use Rattle.std.specs.Prelude.{Option, Some, None, unwrap_or}
-use mathlib.Core.Path.{◌≡◌}
-use mathlib.Core.Bool.{Bool}
+use mathlib.Core.Path.{◌≡◌, refl, ◌∙◌, sym, ap, ap₂}
+use mathlib.Core.Bool.{Bool, true, false, not}
 use Prim.Native.Nat.{ℕ, zero, suc, ◌+◌, ◌<◌, ◌≤◌}
 use native.Mathlib.Numerals.{add-one}
 use native.Mathlib.Decide.{dec_lt}
 use native.Mathlib.Omega.{arith}
-use borrow.Author.Tests.{lt-ltb, le-ltb}
-use Rattle.meaning.specs.Choosing.{lowest_free, best}
+use lib.Dec.{ltb}
+use borrow.Author.Tests.{eq-eqb, ne_eqb, lt-ltb, le-ltb}
+use Rattle.meaning.specs.declared.Thread.{Thread}
+use Rattle.meaning.specs.declared.Effect.{Effect}
+use Rattle.meaning.specs.declared.Verdict.{Verdict}
+use Rattle.meaning.specs.Choosing.{lowest_free, challenge, best, to_block, least_worn, from_block}
 use Rattle.meaning.specs.Limits.{most_blocks, most_word}
+use Rattle.meaning.specs.Holding.{free}
+use Rattle.meaning.specs.Store.{Store}
+use Rattle.meaning.specs.Step.{next, set_p, set_q, nothing}
 use Rattle.meaning.proofs.Base.Searches.{finds, finds-nobody, Best, best-finds}
-use Rattle.machine.specs.Judging.{Ranks}
+use Rattle.machine.specs.Judging.{Ranks, chosen_of}
 
 -- ---- the lowest free block
+
+-- none of the first k is free, and neither is k
+pub lowest-more : (header : ℕ → ℕ) (k : ℕ) → lowest_free header k ≡ k → (header k ≡ 0 → ⊥) → lowest_free header (k + 1) ≡ k + 1
+lowest-more header k e h = rw (add-one, e, ne_eqb (header k) 0 h, le-ltb k k (omega arith))
 
 -- none of the first k is free, and k is
 pub lowest-found : (header : ℕ → ℕ) (k n : ℕ) → lowest_free header k ≡ k → header k ≡ 0 → k < n → lowest_free header n ≡ k
@@ -35,6 +46,34 @@ found-below eligible beats n q h = rw q (by_found (best-finds eligible beats n))
     by_found : Best eligible beats n → unwrap_or (best eligible beats n) 0 < most_blocks
     by_found (finds m b f e) = rw e (omega arith)
     by_found (finds-nobody all e) = rw e (omega arith)
+
+-- what is found is among the first n
+best-below : (eligible : ℕ → Bool) (beats : ℕ → ℕ → Bool) (n room : ℕ) → n ≤ room → 0 < room → unwrap_or (best eligible beats n) 0 < room
+best-below eligible beats n room h p = by_found (best-finds eligible beats n)
+  where
+    by_found : Best eligible beats n → unwrap_or (best eligible beats n) 0 < room
+    by_found (finds m b f e) = rw e (omega arith)
+    by_found (finds-nobody all e) = rw e p
+
+-- which blocks are in question in the search for "to" and for "from", and which of two beats the other
+abbrev unused : (ℕ → ℕ) → ℕ → Bool
+unused header m = free (header m)
+
+abbrev used : (ℕ → ℕ) → ℕ → Bool
+used header m = not (free (header m))
+
+abbrev more_worn : (ℕ → ℕ) → ℕ → ℕ → Bool
+more_worn wear k m = ltb (wear m) (wear k)
+
+abbrev less_worn : (ℕ → ℕ) → ℕ → ℕ → Bool
+less_worn wear k m = ltb (wear k) (wear m)
+
+-- what a search finds is below the bound on blocks
+pub to_block_below : (header wear : ℕ → ℕ) (n : ℕ) {f : Option ℕ} → f ≡ to_block header wear n → n ≤ most_blocks → unwrap_or f 0 < most_blocks
+to_block_below header wear n e h = rw e (best-below (unused header) (more_worn wear) n most_blocks h (omega arith))
+
+pub least_worn_below : (header wear : ℕ → ℕ) (n : ℕ) {f : Option ℕ} → f ≡ least_worn header wear n → n ≤ most_blocks → unwrap_or f 0 < most_blocks
+least_worn_below header wear n e h = rw e (best-below (used header) (less_worn wear) n most_blocks h (omega arith))
 
 -- ---- a search that keeps the least key
 
@@ -60,3 +99,93 @@ module _ {gives : ℕ → Option ℕ → Type 0} {eligible : ℕ → Bool} {beat
   leads-stays w (nobody e l) g f h = absurd (omega arith)
   leads-stays w (somebody e b i l) g f h =
       somebody (rw (add-one, r.with_key k w low g, e, r.order k at w least low (omega arith) g i, le-ltb w least h)) (omega arith) i l
+
+-- ---- a search that keeps a mark of the best
+
+-- what a loop has found of the blocks passed: nobody, and the mark is unset, or a block, and the mark is its
+pub data Marked (mark : ℕ → ℕ) (unset : ℕ) : Option ℕ → ℕ → ℕ → Type 0 where
+  nobody : (at : ℕ) → Marked mark unset None at unset
+  somebody : (m : ℕ) → (mark m ≡ unset → ⊥) → Marked mark unset (Some m) m (mark m)
+
+-- what is found in the end
+pub marked-nobody : {mark : ℕ → ℕ} {unset : ℕ} {f : Option ℕ} {at bar : ℕ} → Marked mark unset f at bar → bar ≡ unset → None ≡ f
+marked-nobody (nobody at) e = refl
+marked-nobody (somebody m h) e = absurd (h e)
+
+pub marked-somebody : {mark : ℕ → ℕ} {unset : ℕ} {f : Option ℕ} {at bar : ℕ} → Marked mark unset f at bar → (bar ≡ unset → ⊥) → Some at ≡ f
+marked-somebody (nobody at) e = absurd (e refl)
+marked-somebody (somebody m h) e = refl
+
+-- one block more: it is not in question, or beats what was found, or does not
+module _ (eligible : ℕ → Bool) (beats : ℕ → ℕ → Bool) {mark : ℕ → ℕ} {unset k at bar : ℕ} (h : Marked mark unset (best eligible beats k) at bar) where
+  pub marked-passes : eligible k ≡ false → Marked mark unset (best eligible beats (k + 1)) at bar
+  marked-passes e = rw (add-one, e) h
+
+  pub marked-takes :
+      eligible k ≡ true → (mark k ≡ unset → ⊥) → ((m : ℕ) → bar ≡ mark m → beats k m ≡ true) →
+      Marked mark unset (best eligible beats (k + 1)) k (mark k)
+  marked-takes e u w = rw (add-one, e) (taken h w)
+    where
+      taken :
+          {f : Option ℕ} {at bar : ℕ} → Marked mark unset f at bar → ((m : ℕ) → bar ≡ mark m → beats k m ≡ true) →
+          Marked mark unset (challenge true beats k f) k (mark k)
+      taken (nobody at) w = somebody k u
+      taken (somebody m i) w = rw (w m refl) (somebody k u)
+
+  pub marked-stays :
+      eligible k ≡ true → (bar ≡ unset → ⊥) → ((m : ℕ) → bar ≡ mark m → beats k m ≡ false) →
+      Marked mark unset (best eligible beats (k + 1)) at bar
+  marked-stays e u w = rw (add-one, e) (stayed h u w)
+    where
+      stayed :
+          {f : Option ℕ} {at bar : ℕ} → Marked mark unset f at bar → (bar ≡ unset → ⊥) → ((m : ℕ) → bar ≡ mark m → beats k m ≡ false) →
+          Marked mark unset (challenge true beats k f) at bar
+      stayed (nobody at) u w = absurd (u refl)
+      stayed (somebody m i) u w = rw (w m refl) (somebody m i)
+
+-- "to", marked by one more than its wear
+abbrev pub ToMarked : (ℕ → ℕ) → (ℕ → ℕ) → ℕ → ℕ → ℕ → Type 0
+ToMarked header wear k at bar = Marked (λ m. wear m + 1) 0 (to_block header wear k) at bar
+
+-- "from", marked by its wear, and by more than any word where there is none
+abbrev pub FromMarked : (ℕ → ℕ) → (ℕ → ℕ) → ℕ → ℕ → ℕ → Type 0
+FromMarked header wear k at least = Marked wear (most_word + 1) (least_worn header wear k) at least
+
+module _ (header wear : ℕ → ℕ) (k : ℕ) {at mark : ℕ} where
+  pub to_passes : ToMarked header wear k at mark → (header k ≡ 0 → ⊥) → ToMarked header wear (k + 1) at mark
+  to_passes h e = marked-passes (unused header) (more_worn wear) h (ne_eqb (header k) 0 e)
+
+  pub to_takes : ToMarked header wear k at mark → header k ≡ 0 → mark ≤ wear k → ToMarked header wear (k + 1) k (wear k + 1)
+  to_takes h e l =
+      marked-takes (unused header) (more_worn wear) h (eq-eqb (header k) 0 e) (λ q. omega arith)
+      (λ m q. lt-ltb (wear m) (wear k) (omega arith))
+
+  pub to_stays : ToMarked header wear k at mark → header k ≡ 0 → wear k < mark → ToMarked header wear (k + 1) at mark
+  to_stays h e l =
+      marked-stays (unused header) (more_worn wear) h (eq-eqb (header k) 0 e) (λ q. omega arith)
+      (λ m q. le-ltb (wear m) (wear k) (omega arith))
+
+  pub from-passes : FromMarked header wear k at mark → header k ≡ 0 → FromMarked header wear (k + 1) at mark
+  from-passes h e = marked-passes (used header) (less_worn wear) h (ap not (eq-eqb (header k) 0 e))
+
+  pub from-takes :
+      FromMarked header wear k at mark → (header k ≡ 0 → ⊥) → wear k ≤ most_word → wear k < mark → FromMarked header wear (k + 1) k (wear k)
+  from-takes h e f l =
+      marked-takes (used header) (less_worn wear) h (ap not (ne_eqb (header k) 0 e)) (λ q. omega arith)
+      (λ m q. lt-ltb (wear k) (wear m) (omega arith))
+
+  pub from-stays :
+      FromMarked header wear k at mark → (header k ≡ 0 → ⊥) → wear k ≤ most_word → mark ≤ wear k → FromMarked header wear (k + 1) at mark
+  from-stays h e f l =
+      marked-stays (used header) (less_worn wear) h (ap not (ne_eqb (header k) 0 e)) (λ q. omega arith)
+      (λ m q. le-ltb (wear k) (wear m) (omega arith))
+
+-- ---- from and to
+
+-- L3's verdict, of what the searches found
+pub chosen-found :
+    (s : Store) (q : ℕ) (r : Thread) {to from : Option ℕ} {p : ℕ} {on : Thread} {e : Effect} {v : Verdict} →
+    to ≡ to_block s.header s.wear s.blocks → to ≡ Some q → from ≡ least_worn s.header s.wear s.blocks → p ≡ from_block s.wear s.distance q from →
+    on ≡ set_q q (set_p p r) → e ≡ nothing → v ≡ next on e → v ≡ chosen_of s r
+chosen-found s q r t i f d o n v =
+    rw (sym t ∙ i) (v ∙ ap₂ next (o ∙ ap (λ x. set_q q (set_p x r)) (d ∙ ap (from_block s.wear s.distance q) f)) n)

@@ -1,9 +1,10 @@
 -- A plausible tally, as facts; one that has room for some blocks, for one less each time that one is added; and the block records of a well-formed
 -- area. Assumes nothing.
-use mathlib.Core.Path.{◌≡◌, refl}
+use mathlib.Core.Path.{◌≡◌, refl, sym, ap}
 use mathlib.Core.List.{List, [], ◌∷◌}
 use mathlib.Core.Bool.{Bool, true, false, cond}
 use Prim.Native.Nat.{ℕ, zero, suc, ◌+◌, ◌-◌, ◌*◌, ◌<◌, ◌≤◌}
+use native.Mathlib.Numerals.{add-one}
 use native.Mathlib.Omega.{arith}
 use lib.ListN.{length}
 use Rattle.std.proofs.lemmas.Bool.{and_parts, leb-true, le-leb, lt-ltb}
@@ -67,6 +68,15 @@ room_next b n low r =
       free = omega (arith, r.free, once (free b.header));
       sum = omega (arith, r.sum);
     }
+
+-- the next record of the area
+pub rows_next :
+    (t : Tally) {all : Tally} (at : ℕ → ℕ) (from k : ℕ) {header wear : ℕ} → all ≡ with_blocks t (rows_of at from k) →
+    header ≡ at (from + block_words * k) → wear ≡ at (from + block_words * k + 2) →
+    with_block all (record { header = header; wear = wear }) ≡ with_blocks t (rows_of at from (k + 1))
+rows_next t at from k e h w =
+    let place : from + block_words * k + 2 ≡ from + 2 + block_words * k = omega arith in
+    rw (e, h, w, place) (ap (λ n. with_blocks t (rows_of at from n)) (sym (add-one k)))
 
 -- ---- a well-formed area's records
 

@@ -52,6 +52,9 @@ pub record RunningAt (input out₀ area out left : List ℕ) (end : ℕ) : Type 
   pub little : end + 6 * length left ≤ 6 * length input
   pub rest : (r : ℕ) (b : List ℕ) → Wrote out end (answers area (lines left)) r b → Wrote out₀ 0 (answers [] (lines input)) r b
 
+pub running_start : (input out : List ℕ) → RunningAt input out [] out input 0
+running_start input out = record { same_out = refl; little = omega arith; rest = λ r b w. w }
+
 -- nothing is left
 pub running_end :
     {input out₀ area out : List ℕ} {end : ℕ} (left : List ℕ) → RunningAt input out₀ area out left end

@@ -4,10 +4,11 @@ use mathlib.Core.Path.{◌≡◌, ◌∙◌, refl, sym, ap}
 use mathlib.Core.List.{List, [], ◌∷◌, ◌++◌, append_assoc}
 use Prim.Native.Nat.{ℕ, zero, suc, ◌+◌, ◌-◌, ◌≤◌, ◌<◌, ◌/◌, ◌%◌, ◌^◌}
 use native.Mathlib.Nat.{add-zero}
+use native.Mathlib.Numerals.{add-one}
 use native.Mathlib.Omega.{arith}
 use lib.Dec.{ltb}
-use lib.ListN.{length, take, drop, take-append-drop, length-append, drop_of_length-le}
-use lib.Seq.{length-take-le, take_at, drop_at, drop-drop}
+use lib.ListN.{length, take, drop, set, take-append-drop, length-append, drop_of_length-le}
+use lib.Seq.{length-take-le, set_split, take_at, drop_at, drop-drop}
 use Rattle.std.specs.Fmt.{digits}
 use Rattle.std.proofs.lemmas.Fmt.{decimal_digit, decimal_step}
 use Rattle.std.proofs.lemmas.List.{drop-append-le}
@@ -19,6 +20,9 @@ use Rattle.script.specs.Printing.{most_figures, figures, printed, most_printed, 
 
 pub wrote_nothing : (b : List ℕ) (at : ℕ) → Wrote b at [] at b
 wrote_nothing b at = record { ends = sym (add-zero at); holds = rw (add-zero, take-append-drop) }
+
+pub wrote-byte : (b : List ℕ) (at v : ℕ) → at < length b → Wrote b at (v ∷ []) (at + 1) (set b at v)
+wrote-byte b at v h = record { ends = refl; holds = rw (add-one) (set_split b at v h) }
 
 -- a copy into the part of that length
 pub wrote_copy :
@@ -32,6 +36,11 @@ wrote_copy b at bs from copy e w =
 pub wrote_determined :
     {b bs b' b'' : List ℕ} {at e f : ℕ} → Wrote b at bs e b' → Wrote b at bs f b'' → (e ≡ f) × (b' ≡ b'')
 wrote_determined one two = (one.ends ∙ sym two.ends, one.holds ∙ sym two.holds)
+
+-- what was written ends inside the buffer
+pub wrote-inside : {b bs b' : List ℕ} {at e : ℕ} → Wrote b at bs e b' → at ≤ length b → e ≤ length b'
+wrote-inside {b} {bs} {b'} {at} w h =
+    rw (w.ends, w.holds, length-append, length-append, length-take-le at b h) (omega arith)
 
 module _ (b : List ℕ) (at : ℕ) (xs : List ℕ) (fits : at + length xs ≤ length b) where
   -- what was written, with what stands before it

@@ -1,9 +1,11 @@
 -- Laws of writing a page: one part after another, and how long its lines are. Assumes nothing.
 use mathlib.Core.Path.{◌≡◌, refl, ◌∙◌}
-use mathlib.Core.List.{List, ◌++◌}
-use Prim.Native.Nat.{ℕ, ◌*◌, ◌≤◌}
+use mathlib.Core.List.{List, [], ◌∷◌, ◌++◌}
+use Prim.Native.Nat.{ℕ, ◌+◌, ◌*◌, ◌≤◌, ◌<◌}
+use native.Mathlib.Numerals.{add-one}
 use native.Mathlib.Omega.{arith}
-use lib.ListN.{length, length-append}
+use lib.ListN.{length, take, get_or, length-append}
+use lib.Seq.{take-suc, length-take-le}
 use Rattle.std.specs.Option.{option_map}
 use Rattle.std.proofs.Common.{Option, None, Some}
 use Rattle.script.specs.Printing.{Wrote}
@@ -17,7 +19,20 @@ use Rattle.page.specs.Out.{Puts}
 
 -- ---- writing
 
--- one part after another
+-- one part after another, where the first ends inside the buffer
+pub wrote_on :
+    {b b' b'' xs ys : List ℕ} {at m e : ℕ} → Wrote b at xs m b' → m ≤ length b → Wrote b' m ys e b'' → Wrote b at (xs ++ ys) e b''
+wrote_on {b} {b'} {b''} {xs} {ys} {at} one inside two = wrote_then b at xs (omega (arith, one.ends)) ys one two
+
+-- a byte more of a text
+pub wrote-more :
+    {b b' b'' : List ℕ} {at m e i : ℕ} (text : List ℕ) → at + length text ≤ length b → i < length text
+    → Wrote b at (take i text) m b' → Wrote b' m (get_or text i 0 ∷ []) e b'' → Wrote b at (take (i + 1) text) e b''
+wrote-more {i = i} text fits here one two =
+    let short = length-take-le i text (omega arith) in
+    rw (add-one, take-suc text i 0) (wrote_on one (omega (arith, one.ends, short)) two)
+
+-- one part after another, of a page
 pub puts_then : {a b c : Out} {xs ys : List ℕ} → Puts a xs b → Puts b ys c → Puts a (xs ++ ys) c
 puts_then {a} {b} {c} {xs} {ys} one two =
     record {

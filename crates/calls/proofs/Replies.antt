@@ -166,6 +166,11 @@ module _ {a : List ℕ} {k : ℕ} {o : Opened} (is : Opens a k o) where
       pub begin-logical : not (eqb op LEVEL) && leb o.z.n n ≡ true → call_area a (begin k op n c) ≡ refusal LOGICAL a
       begin-logical l = rw (is.well, below, rests (eq-eqb _ _ e), operation-tested op w, numbered l)
 
+      pub begin-reply :
+          not (eqb op LEVEL) && leb o.z.n n ≡ false →
+          call_area a (begin k op n c) ≡ reply_of WENT 0 (encode (apply (decode a) k (begun op n c) nothing))
+      begin-reply l = rw (is.well, below, rests (eq-eqb _ _ e), operation-tested op w, numbered l)
+
   -- the record that begin writes, for an operation, and for a number below N but for a levelling
   pub begin-went :
       (x : Operation) {op : ℕ} (n c : ℕ) → operation_number x ≡ op → o.r.op ≡ 0 → eqb (operation_number x) LEVEL || ltb n o.z.n ≡ true →

@@ -1,10 +1,10 @@
 -- The front of a list and its rest: a call on the front of a buffer, which leaves what stands behind it as it was. Assumes nothing.
-use mathlib.Core.Bool.{cond}
-use mathlib.Core.Path.{◌≡◌, ◌∙◌, sym, ap}
+use mathlib.Core.Bool.{Bool, true, false, cond}
+use mathlib.Core.Path.{◌≡◌, ◌∙◌, refl, sym, ap}
 use mathlib.Core.List.{List, [], ◌∷◌, ◌++◌}
 use Prim.Native.Nat.{ℕ, zero, suc, ◌-◌, ◌≤◌}
 use native.Mathlib.Omega.{arith}
-use borrow.Author.Tests.{eq-eqb, ne_eqb}
+use borrow.Author.Tests.{eq-eqb, ne_eqb, leb-true}
 use lib.Dec.{leb}
 use lib.ListN.{length, take, drop, take-append-drop, length-drop}
 use Rattle.std.proofs.lemmas.List.{take_all}
@@ -41,6 +41,13 @@ take_rest n xs =
     take_all (length xs - n) (drop n xs) long
 
 -- ---- the format of a new store on the front of a buffer
+
+pub wanted-fits : (t n p want : ℕ) → want ≡ cond (leb (size t n p) largest) (size t n p) 0 → want ≤ largest
+wanted-fits t n p want e = each (leb (size t n p) largest) refl e
+  where
+    each : (b : Bool) → leb (size t n p) largest ≡ b → want ≡ cond b (size t n p) 0 → want ≤ largest
+    each true small h = omega (arith, leb-true (size t n p) largest small)
+    each false large h = omega arith
 
 module _ (buffer : List ℕ) (used want t n p d : ℕ)
     (inside : want ≤ length buffer)

@@ -3,8 +3,9 @@
 use mathlib.Core.Bool.{Bool, true, false, cond}
 use mathlib.Core.Path.{◌≡◌, ◌∙◌, refl, sym, ap}
 use mathlib.Core.List.{List, [], ◌∷◌, ◌++◌}
-use Prim.Native.Nat.{ℕ, ◌+◌, ◌*◌, ◌≤◌}
+use Prim.Native.Nat.{ℕ, ◌+◌, ◌*◌, ◌≤◌, ◌<◌}
 use native.Mathlib.Omega.{arith}
+use borrow.Author.Tests.{le-leb, lt-leb}
 use lib.Dec.{eqb}
 use lib.ListN.{length}
 use Rattle.meaning.specs.Call.{Reply}
@@ -12,7 +13,7 @@ use Rattle.std.specs.Prelude.{Option, None}
 use Rattle.script.specs.declared.Command.{Command}
 use Rattle.script.specs.Syntax.{BLANK, missing, field, lettered, command, line, lines}
 use Rattle.script.specs.Printing.{printed, most_printed, Wrote}
-use Rattle.script.specs.Output.{stopped, replied, heard, answers}
+use Rattle.script.specs.Output.{FORM, LONG, most_input, most_output, stopped, replied, heard, answers, output, fitting}
 use Rattle.script.specs.Turns.{Roomy}
 use Rattle.script.proofs.Writing.{wrote_nothing, wrote_then, printed_most}
 
@@ -43,6 +44,25 @@ module _ (a l : List ℕ) (s rest : List ℕ) (cut : line l (lines rest) ≡ lin
       (r : Reply (List ℕ)) → replied r ≡ heard a (command l)
       → answers a (lines s) ≡ printed r.number r.value ++ answers r.after (lines rest)
   answers-replied r e = rw (← cut, ← e)
+
+  pub answers-stopped : stopped ≡ heard a (command l) → answers a (lines s) ≡ printed FORM 0
+  answers-stopped e = rw (← cut, ← e)
+
+-- ---- the whole
+
+pub output-long : (input : List ℕ) → most_input < length input → output input ≡ printed LONG 0
+unfolding output
+output-long input h = rw (lt-leb _ _ h)
+
+pub output-lines : (input : List ℕ) → length input ≤ most_input → output input ≡ answers [] (lines input)
+unfolding output
+output-lines input h = rw (le-leb _ _ h)
+
+pub fitting-short : (out bs : List ℕ) → length out < most_output → fitting out bs ≡ []
+fitting-short out bs h = rw (lt-leb _ _ h)
+
+pub fitting-ample : (out bs : List ℕ) → most_output ≤ length out → fitting out bs ≡ bs
+fitting-ample out bs h = rw (le-leb _ _ h)
 
 -- ---- the loop
 

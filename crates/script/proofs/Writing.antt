@@ -66,6 +66,18 @@ module _ (b : List ℕ) (at : ℕ) (xs : List ℕ) (fits : at + length xs ≤ le
 
 -- ---- the digits of a number
 
+pub figures-none : (k v : ℕ) → k ≡ 0 → figures k v ≡ []
+unfolding figures
+figures-none zero v h = refl
+figures-none (suc k) v h = absurd (omega arith)
+
+-- the last digit stands after the others
+pub figures-some :
+    (k v : ℕ) → (k ≡ 0 → ⊥) → figures k v ≡ cond (ltb v 10) [] (figures (k - 1) (v / 10)) ++ ((ZERO + v % 10) ∷ [])
+unfolding figures
+figures-some zero v h = absurd (h refl)
+figures-some (suc k) v h = let e : suc k - 1 ≡ k = omega arith in rw e
+
 -- the last digits of what std writes
 pub figures-last : (k v : ℕ) → v < 2 ^ 64 → figures k v ≡ drop (length (digits 10 false v) - k) (digits 10 false v)
 unfolding figures

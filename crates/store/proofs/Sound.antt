@@ -19,6 +19,7 @@ use Rattle.meaning.specs.Call.{is_idle}
 use Rattle.meaning.proofs.Base.Words.{either_way, clash, every_at, all-every, and_left, and_right, within_true}
 use Rattle.meaning.proofs.Invariant.{Stands}
 use Rattle.meaning.proofs.Acts.{NearBounded}
+use Rattle.store.specs.declared.TheConstants.Store.{LONGEST}
 use Rattle.store.specs.Layout.{t_at, n_at, p_at, d_at, size, largest}
 use Rattle.store.specs.Live.{Live}
 use Rattle.store.specs.Area.{word, decode, zeros, working, sound_thread, in_bounds, sound, fitted, well_formed}
@@ -85,6 +86,10 @@ limits-sizes t n p d e =
 
 pub size_most : (t n p d : ℕ) → in_limits t n p d ≡ true → size t n p ≤ largest
 size_most t n p d e = omega (arith, limits-sizes t n p d e)
+
+-- the code's constant is that length
+pub longest : LONGEST ≡ largest
+longest = refl
 
 pub sizes-limits : (t n p d : ℕ) → Sizes t n p d → in_limits t n p d ≡ true
 sizes-limits t n p d z =

@@ -13,7 +13,9 @@ fn read_full(input: &mut impl Read, buffer: &mut [u8]) -> usize
     ensures { result ≤ length buffer.new }
 {
     let mut count = 0;
-    while let Ok(more @ 1..) = input.read(&mut buffer[count..]) {
+    while count < buffer.len()
+        && let Ok(more @ 1..) = input.read(&mut buffer[count..])
+    {
         count += more;
     }
     count

@@ -91,7 +91,9 @@ impl<R: Env + Files, W: Write + Drop> Run<'_, R, W> {
         self.err.write_all(b"; no more files are read\n").ok();
     }
 
-    fn say_why(&mut self, name: &[u8], why: io::Error) {
+    fn say_why(&mut self, name: &[u8], why: io::Error)
+        ensures { self.new.tally ≡ self.old.tally }
+    {
         let shown = InlineText::<300>::of(why);
         let reason = reason_of(shown.as_str());
         self.say(name, b": ");

@@ -1,6 +1,7 @@
 // The library that C links: a thin function for each exported one.
-// Each has the contract of the function of a crate below that it calls. A static library has only the functions that its own crate marks, so
-// all that C can call stands here. The C header is include/kernelsun.h.
+// Each has the contract of the function of a crate below that it calls; for `add_area`, whose answer is packed here, `added-means` of sheet's
+// proofs/Sheets says so. A static library has only the functions that its own crate marks, so all that C can call stands here. The C header is
+// include/kernelsun.h.
 #![tactic(auto)]
 
 ghost use Rattle.calls.specs.Means.{FormatMeans, BeginMeans, StepMeans};

@@ -12,7 +12,7 @@ use lib.Seq.{length-take-le, set_split, take_at, drop_at, drop-drop}
 use Rattle.std.specs.Fmt.{digits}
 use Rattle.std.proofs.lemmas.Fmt.{decimal_digit, decimal_step}
 use Rattle.std.proofs.lemmas.List.{drop-append-le}
-use borrow.Author.Tests.{ltb-true, ltb-false}
+use borrow.Author.Tests.{lt-ltb, ltb-true, ltb-false}
 use Rattle.script.specs.Syntax.{ZERO}
 use Rattle.script.specs.Printing.{most_figures, figures, printed, most_printed, Wrote}
 
@@ -96,6 +96,14 @@ figures-last (suc k) v h = each (ltb v 10) refl (figures-last k (v / 10) (omega 
         let n : length ds + 1 - suc k ≡ length ds - k = omega arith in
         let fits : length ds - k ≤ length ds = omega arith in
         rw (decimal_step v (ltb-false v 10 e) h, length-append, n, drop-append-le (length ds - k) ds ((48 + v % 10) ∷ []) fits, more)
+
+-- a number of one digit
+pub figures_digit : (k v : ℕ) → 0 < k → v < 10 → figures k v ≡ (ZERO + v) ∷ []
+unfolding figures
+figures_digit zero v some h = absurd (omega arith)
+figures_digit (suc k) v some h =
+    let same : v % 10 ≡ v = omega arith in
+    rw (lt-ltb v 10 h, same)
 
 pub figures_most : (k v : ℕ) → length (figures k v) ≤ k
 unfolding figures

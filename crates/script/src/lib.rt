@@ -154,11 +154,14 @@ pub fn put_byte(out: &mut [u8], at: usize, b: u8) -> usize
 }
 
 // The digits of a number, of which there are at most `most`: the last ones, where it has more. `itoa` prints it and not `std::fmt`, which says what
-// it wrote only where it answers Ok, and not when it does.
+// it wrote only where it answers Ok, and not when it does. One digit, as most replies have, goes without the buffer that `itoa` fills, for speed.
 pub fn put_figures(out: &mut [u8], at: usize, most: u32, value: u64) -> usize
     requires { at + most ≤ length out.old }
     ensures { Wrote out.old at (figures most value) result out.new }
 {
+    if value < 10 && 0 < most {
+        return put_byte(out, at, b'0' + value as u8);
+    }
     let mut text = itoa::Buffer::new();
     let digits = text.format(value).as_bytes();
     let last = &digits[digits.len().saturating_sub(most as usize)..];

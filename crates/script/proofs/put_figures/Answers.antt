@@ -1,9 +1,14 @@
--- The last digits of the text are copied.
+-- One digit, or the last digits of the text are copied.
 use Rattle.std.proofs.Common.{◌≡◌, ◌-◌, ◌∙◌, sym, arith, length, take, drop}
 use Rattle.script.specs.Printing.{figures}
-use Rattle.script.proofs.Writing.{figures-last, wrote_copy}
+use Rattle.script.proofs.Writing.{figures-last, figures_digit, wrote_copy}
 use Rattle.script.proofs.Front.{take_rest}
 use Rattle.script.proofs.put_figures.Goals as goal
+
+pub returns-then-most-gt0 : goal.returns-then-most-gt0
+returns-then-most-gt0 c =
+    let x = c.args in
+    rw (figures_digit x.most x.value (omega arith) (omega arith)) c.put_byte.ensures
 
 pub returns : goal.returns
 returns c =

@@ -141,7 +141,8 @@ struct Opened {
     pub r: Thread,
 }
 
-// The two refusals that come first, for begin and step alike.
+// The two refusals that come first, for begin and step alike. Inlined: as a call of its own it took a refused step some 26 instructions.
+#[inline(always)]
 fn open(area: &[u8], thread: u32) -> Result<Opened, Refusal>
     ensures { MatchResult result (Opens area.now thread) (RefusesAny area.now thread) }
 {

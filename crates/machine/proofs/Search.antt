@@ -38,15 +38,6 @@ lowest-found header k (suc n) e h l = by_order (dec_lt k n) (λ q. lowest-found 
 
 -- ---- the best block
 
--- what is found is a block that there may be
-pub found-below :
-    (eligible : ℕ → Bool) (beats : ℕ → ℕ → Bool) (n : ℕ) {f : Option ℕ} → f ≡ best eligible beats n → n ≤ most_blocks → unwrap_or f 0 < most_blocks
-found-below eligible beats n q h = rw q (by_found (best-finds eligible beats n))
-  where
-    by_found : Best eligible beats n → unwrap_or (best eligible beats n) 0 < most_blocks
-    by_found (finds m b f e) = rw e (omega arith)
-    by_found (finds-nobody all e) = rw e (omega arith)
-
 -- what is found is among the first n
 best-below : (eligible : ℕ → Bool) (beats : ℕ → ℕ → Bool) (n room : ℕ) → n ≤ room → 0 < room → unwrap_or (best eligible beats n) 0 < room
 best-below eligible beats n room h p = by_found (best-finds eligible beats n)
@@ -54,6 +45,11 @@ best-below eligible beats n room h p = by_found (best-finds eligible beats n)
     by_found : Best eligible beats n → unwrap_or (best eligible beats n) 0 < room
     by_found (finds m b f e) = rw e (omega arith)
     by_found (finds-nobody all e) = rw e p
+
+-- so it is a block that there may be
+pub found-below :
+    (eligible : ℕ → Bool) (beats : ℕ → ℕ → Bool) (n : ℕ) {f : Option ℕ} → f ≡ best eligible beats n → n ≤ most_blocks → unwrap_or f 0 < most_blocks
+found-below eligible beats n q h = rw q (best-below eligible beats n most_blocks h (omega arith))
 
 -- which blocks are in question in the search for "to" and for "from", and which of two beats the other
 abbrev unused : (ℕ → ℕ) → ℕ → Bool
@@ -68,12 +64,11 @@ more_worn wear k m = ltb (wear m) (wear k)
 abbrev less_worn : (ℕ → ℕ) → ℕ → ℕ → Bool
 less_worn wear k m = ltb (wear k) (wear m)
 
--- what a search finds is below the bound on blocks
 pub to_block_below : (header wear : ℕ → ℕ) (n : ℕ) {f : Option ℕ} → f ≡ to_block header wear n → n ≤ most_blocks → unwrap_or f 0 < most_blocks
-to_block_below header wear n e h = rw e (best-below (unused header) (more_worn wear) n most_blocks h (omega arith))
+to_block_below header wear n e h = found-below (unused header) (more_worn wear) n e h
 
 pub least_worn_below : (header wear : ℕ → ℕ) (n : ℕ) {f : Option ℕ} → f ≡ least_worn header wear n → n ≤ most_blocks → unwrap_or f 0 < most_blocks
-least_worn_below header wear n e h = rw e (best-below (used header) (less_worn wear) n most_blocks h (omega arith))
+least_worn_below header wear n e h = found-below (used header) (less_worn wear) n e h
 
 -- ---- a search that keeps the least key
 
@@ -100,7 +95,7 @@ module _ {gives : ℕ → Option ℕ → Type 0} {eligible : ℕ → Bool} {beat
   leads-stays w (somebody e b i l) g f h =
       somebody (rw (add-one, r.with_key k w low g, e, r.order k at w least low (omega arith) g i, le-ltb w least h)) (omega arith) i l
 
--- ---- a search that keeps a mark of the best
+-- ---- a search that keeps a mark of the best: no loop does so now
 
 -- what a loop has found of the blocks passed: nobody, and the mark is unset, or a block, and the mark is its
 pub data Marked (mark : ℕ → ℕ) (unset : ℕ) : Option ℕ → ℕ → ℕ → Type 0 where

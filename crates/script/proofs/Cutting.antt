@@ -88,7 +88,7 @@ prefixed-more : (l : List ℕ) (c : ℕ) (ls : Lines) → prefixed (l ++ (c ∷ 
 prefixed-more [] c ls = refl
 prefixed-more (b ∷ bs) c ls = ap (onto false b) (prefixed-more bs c ls)
 
--- ---- the first newline of a list from a place on
+-- ---- the first newline of a list from a place on, byte after byte, as no function looks for it now
 
 module _ (s : List ℕ) (at e : ℕ) (from : at ≤ e) (inside : e < length s) where
   -- one byte more

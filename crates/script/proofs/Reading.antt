@@ -1,6 +1,6 @@
 -- Laws of reading: what the digits at the front of a line come to, and what the definitions of specs/Syntax.antt say at a place of a list. Assumes nothing.
 use mathlib.Core.Bool.{Bool, true, false, cond}
-use mathlib.Core.Path.{◌≡◌, ◌∙◌, refl, sym}
+use mathlib.Core.Path.{◌≡◌, refl}
 use mathlib.Core.List.{List, [], ◌∷◌}
 use Prim.Native.Nat.{ℕ, ◌+◌, ◌-◌, ◌*◌, ◌≤◌, ◌<◌}
 use native.Mathlib.Numerals.{add-one}
@@ -11,7 +11,7 @@ use lib.ListN.{length, get_or, drop}
 use lib.Seq.{drop-cons}
 use Rattle.std.specs.Prelude.{None}
 use Rattle.meaning.specs.Limits.{most_word}
-use Rattle.script.specs.Syntax.{BLANK, ZERO, NINE, Read, missing, got, is_digit, digits, bounded, number, field, lettered, command}
+use Rattle.script.specs.Syntax.{BLANK, ZERO, NINE, missing, got, is_digit, digits, bounded, number, field, lettered, command}
 
 -- a value that is too large stays so
 pub digits-over : (v : ℕ) (cs : List ℕ) → most_word < v → bounded (digits v cs) ≡ missing
@@ -43,13 +43,7 @@ digits_end v (c ∷ cs) small none = go (leb ZERO c) (leb c NINE) refl refl
     go true false l h = rw (l, h, le-leb v most_word small)
     go false high l h = rw (l, le-leb v most_word small)
 
--- ---- the same at a place of a list
-
--- where the digits end, their value is what was asked for
-pub digits-end :
-    {whole : Read} (v : ℕ) (rest : List ℕ) → v ≤ most_word → whole ≡ bounded (digits v rest) → digits v rest ≡ got v rest
-    → got v rest ≡ whole
-digits-end v rest h w d = sym (w ∙ rw (d, le-leb v most_word h))
+-- ---- at a place of a list, by which no function reads now
 
 module _ (s : List ℕ) (at v : ℕ) (inside : at < length s) where
   pub digits_more :

@@ -7,6 +7,7 @@ use lib.ListN.{get_or}
 use Rattle.meaning.specs.Programs.{LEVEL, last_line}
 use Rattle.meaning.proofs.Lines.{◌▸◌, from_at}
 
+-- a table of them, which the code has in a `match` now
 pub last_line-table : (op : ℕ) → get_or (0 ∷ 16 ∷ 6 ∷ 11 ∷ 18 ∷ []) op 0 ≡ last_line op
 last_line-table zero = refl
 last_line-table (suc zero) = refl
